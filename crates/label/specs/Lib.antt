@@ -1,0 +1,5 @@
+pub mod Group
+pub mod Order
+pub mod Form
+pub mod Clauses
+pub mod Numbers
