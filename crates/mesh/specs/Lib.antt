@@ -1,0 +1,4 @@
+pub mod Listed
+pub mod Net
+pub mod Ports
+pub mod Drawn
