@@ -5,6 +5,7 @@ mod kind;
 
 pub use kind::Label;
 pub use refusals::LabelFault;
+pub use refusals::LabelFaultDebug;
 pub use refusals::NoWrittenForm;
 pub use written::Slot;
 pub use written::Storage;

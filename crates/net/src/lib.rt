@@ -9,3 +9,4 @@ mod drawing;
 pub use drafts::Draft;
 pub use records::Line;
 pub use refusals::NetRefusal;
+pub use refusals::NetRefusalDebug;

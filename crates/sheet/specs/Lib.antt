@@ -1,0 +1,6 @@
+pub mod Stored
+pub mod Codes
+pub mod Sheet
+pub mod Faults
+pub mod Numbers
+pub mod Clauses

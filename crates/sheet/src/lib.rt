@@ -1,0 +1,10 @@
+// Sheets: nets as bytes.
+mod faults;
+mod kinds;
+mod numbers;
+
+pub use faults::BytesFault;
+pub use faults::Placed;
+pub use faults::SheetFault;
+pub use faults::WriteRefusal;
+pub use kinds::SheetKind;
