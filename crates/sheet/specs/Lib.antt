@@ -4,3 +4,4 @@ pub mod Sheet
 pub mod Faults
 pub mod Numbers
 pub mod Clauses
+pub mod Reading

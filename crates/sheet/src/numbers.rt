@@ -1,0 +1,47 @@
+ghost use Prim.Native.Nat.{_≤_};
+ghost use lib.ListN.{length};
+ghost use Rattle.sheet.specs.Reading.{NumberClause};
+use crate::faults::BytesFault;
+use crate::faults::Placed;
+
+// A number of a sheet, and the place after it.
+#[derive(Clone, Copy)]
+pub(crate) struct ReadNumber {
+    pub value: u32,
+    pub next: usize,
+}
+
+// The number at a place of the sheet, in its shortest form.
+pub(crate) fn number_at(bytes: &[u8], place: usize) -> Result<ReadNumber, Placed<BytesFault>>
+    requires { ⌜ place ≤ length (now bytes) ⌝ }
+    ensures { λ r. ⌜ NumberClause (now (bytes .entry)) place r ⌝ }
+{
+    let end = bytes.len();
+    let ends = Placed { fault: BytesFault::Ends, place: end };
+    let malformed = Placed { fault: BytesFault::Malformed, place };
+    if end - place < 1 {
+        return Err(ends);
+    }
+    let first = bytes[place] as u32;
+    if first < 128 {
+        return Ok(ReadNumber { value: first, next: place + 1 });
+    }
+    if end - place < 2 {
+        return Err(ends);
+    }
+    let second = bytes[place + 1] as u32;
+    if second == 0 {
+        return Err(malformed);
+    }
+    if second < 128 {
+        return Ok(ReadNumber { value: first - 128 + 128 * second, next: place + 2 });
+    }
+    if end - place < 3 {
+        return Err(ends);
+    }
+    let third = bytes[place + 2] as u32;
+    if third == 0 || third >= 128 {
+        return Err(malformed);
+    }
+    Ok(ReadNumber { value: first - 128 + 128 * (second - 128 + 128 * third), next: place + 3 })
+}
