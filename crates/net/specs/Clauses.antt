@@ -34,6 +34,8 @@ LineClause G stands d list l r d′ list′ =
 -- an opened draft: the nodes asked for, no lines, and the list's length
 pub record Opened {L M : Type 0} (G : Group M) (stands : L → M) (nodes : ℕ) (list : List (Line L)) (d : Draft) : Type 0 where
   pub net : net-of stands d list ≡ record { nodes = nodes; lines = [] }
+  pub same-nodes : d .nodes ≡ nodes
+  pub blank : d .lines ≡ 0
   pub room : d .room ≡ length list
   pub drawn : Drawn G (net-of stands d list)
 

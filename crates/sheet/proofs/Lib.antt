@@ -1,2 +1,3 @@
 mod Groups
 mod Rests
+mod Places

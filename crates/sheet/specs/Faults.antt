@@ -53,33 +53,39 @@ pub data No-heading (kind end : ℕ) (all : List ℕ) : Placed BytesFault → Ty
   count-out : (n m : ℕ) (rest : List ℕ) → (Nodes-out n → ⊥) → Small m → all ≡ text (kind ∷ n ∷ m ∷ []) ++ rest → Count-out m → No-heading kind end all (at-place bytes.HeadingOutOfRange (length (text (kind ∷ n ∷ []))))
 
 module _ {M : Type 0} (F : Form M) where
-  -- the numbers begin a line, and more of them are due
-  pub data Begun : List ℕ → Type 0 where
-    no-tail : Begun []
-    no-head : (t : ℕ) → Small t → Begun (t ∷ [])
-    no-number : (t h k : ℕ) (xs : List ℤ) → Small t → Small h → k < length (F .slots) → fit (take k (F .slots)) xs ≡ true → Begun (t ∷ h ∷ codes (take k (F .slots)) xs)
+  -- the bytes, which begin at a place of a sheet that ends at `end`, begin with no label
+  pub data No-label (place end : ℕ) (all : List ℕ) : SheetFault → Type 0 where
+    -- after k numbers in their ranges, no number can be read
+    unread : (k : ℕ) (xs : List ℤ) (rest : List ℕ) (f : Placed BytesFault) → k < length (F .slots) → fit (take k (F .slots)) xs ≡ true → all ≡ text (codes (take k (F .slots)) xs) ++ rest →
+      Unreadable (place + length (text (codes (take k (F .slots)) xs))) end rest f → No-label place end all (sheet.Bytes f)
+    -- after k numbers in their ranges comes one as which no number of its range is stored
+    outside : (k n : ℕ) (s : Slot) (xs : List ℤ) (rest : List ℕ) → fit (take k (F .slots)) xs ≡ true → nth (F .slots) k ≡ Some s → Small n → ((x : ℤ) → inside s x ≡ true → code (s .storage) x ≢ n) →
+      all ≡ text (codes (take k (F .slots)) xs) ++ (stored n ++ rest) → No-label place end all (sheet.Label (at-place label.OutOfRange (place + length (text (codes (take k (F .slots)) xs)))))
+    -- the kind has no written form
+    unwritable : (xs : List ℤ) (rest : List ℕ) → fit (F .slots) xs ≡ true → F .able ≡ false → all ≡ text (codes (F .slots) xs) ++ rest → No-label place end all (sheet.Label (at-place label.OutOfRange place))
+    -- the numbers are in their ranges, and stand for no label
+    meaningless : (xs : List ℤ) (rest : List ℕ) → in-range F xs ≡ true → F .means xs ≡ None → all ≡ text (codes (F .slots) xs) ++ rest → No-label place end all (sheet.Label (at-place label.NoPermutation place))
+
+  -- the bytes begin with the label, and the rest follows
+  pub record A-label (all : List ℕ) (m : M) (rest : List ℕ) : Type 0 where
+    pub numbers : List ℤ
+    pub ranges : in-range F numbers ≡ true
+    pub label : F .means numbers ≡ Some m
+    pub bytes : all ≡ text (codes (F .slots) numbers) ++ rest
 
   -- the bytes, which begin at a place of a sheet that ends at `end`, begin with no line
   pub data No-line (place end : ℕ) (all : List ℕ) : SheetFault → Type 0 where
-    unread : (ns rest : List ℕ) (f : Placed BytesFault) → Begun ns → all ≡ text ns ++ rest → Unreadable (place + length (text ns)) end rest f → No-line place end all (sheet.Bytes f)
-    -- no number of the range of the label's next number is stored so
-    outside : (t h k n : ℕ) (s : Slot) (xs : List ℤ) (rest : List ℕ) → Small t → Small h → fit (take k (F .slots)) xs ≡ true → nth (F .slots) k ≡ Some s → Small n → ((x : ℤ) → inside s x ≡ true → code (s .storage) x ≢ n) →
-      all ≡ text (t ∷ h ∷ codes (take k (F .slots)) xs) ++ (stored n ++ rest) → No-line place end all (sheet.Label (at-place label.OutOfRange (place + length (text (t ∷ h ∷ codes (take k (F .slots)) xs)))))
-    -- the kind has no written form
-    unwritable : (t h : ℕ) (xs : List ℤ) (rest : List ℕ) → Small t → Small h → fit (F .slots) xs ≡ true → F .able ≡ false →
-      all ≡ text (t ∷ h ∷ codes (F .slots) xs) ++ rest → No-line place end all (sheet.Label (at-place label.OutOfRange (place + length (text (t ∷ h ∷ [])))))
-    -- the numbers are in range, and stand for no label
-    no-label : (t h : ℕ) (xs : List ℤ) (rest : List ℕ) → Small t → Small h → in-range F xs ≡ true → F .means xs ≡ None →
-      all ≡ text (t ∷ h ∷ codes (F .slots) xs) ++ rest → No-line place end all (sheet.Label (at-place label.NoPermutation (place + length (text (t ∷ h ∷ [])))))
+    no-tail : (f : Placed BytesFault) → Unreadable place end all f → No-line place end all (sheet.Bytes f)
+    no-head : (t : ℕ) (rest : List ℕ) (f : Placed BytesFault) → Small t → all ≡ text (t ∷ []) ++ rest → Unreadable (place + length (text (t ∷ []))) end rest f → No-line place end all (sheet.Bytes f)
+    no-label : (t h : ℕ) (rest : List ℕ) (f : SheetFault) → Small t → Small h → all ≡ text (t ∷ h ∷ []) ++ rest → No-label (place + length (text (t ∷ h ∷ []))) end rest f → No-line place end all f
 
   -- the bytes begin with the line, and the rest follows
   pub record A-line (all : List ℕ) (l : Line M) (rest : List ℕ) : Type 0 where
     pub tail-small : Small (l .tail)
     pub head-small : Small (l .head)
-    pub numbers : List ℤ
-    pub ranges : in-range F numbers ≡ true
-    pub label : F .means numbers ≡ Some (l .label)
-    pub bytes : all ≡ text (l .tail ∷ l .head ∷ codes (F .slots) numbers) ++ rest
+    pub between : List ℕ
+    pub ends : all ≡ text (l .tail ∷ l .head ∷ []) ++ between
+    pub label : A-label between (l .label) rest
 
   module _ (G : Group M) (kind room : ℕ) (all : List ℕ) where
     -- the bytes begin with a heading of the kind and these lines, which can be drawn

@@ -2,6 +2,7 @@
 mod faults;
 mod kinds;
 mod numbers;
+mod headings;
 
 pub use faults::BytesFault;
 pub use faults::Placed;

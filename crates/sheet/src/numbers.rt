@@ -3,11 +3,20 @@ ghost use lib.ListN.{length};
 ghost use Rattle.sheet.specs.Reading.{NumberClause};
 use crate::faults::BytesFault;
 use crate::faults::Placed;
+use net::Draft;
 
 // A number of a sheet, and the place after it.
 #[derive(Clone, Copy)]
 pub(crate) struct ReadNumber {
     pub value: u32,
+    pub next: usize,
+}
+
+// What a sheet's heading says: a draft with its nodes, how many lines are to come, and the place after.
+#[derive(Drop)]
+pub(crate) struct Heading {
+    pub draft: Draft,
+    pub lines: u32,
     pub next: usize,
 }
 
