@@ -1,3 +1,4 @@
 mod Groups
 mod Rests
 mod Places
+mod Coded

@@ -3,6 +3,7 @@ mod faults;
 mod kinds;
 mod numbers;
 mod headings;
+mod labels;
 
 pub use faults::BytesFault;
 pub use faults::Placed;

@@ -12,6 +12,20 @@ pub(crate) struct ReadNumber {
     pub next: usize,
 }
 
+// A number of a label, and the place after it.
+#[derive(Clone, Copy)]
+pub(crate) struct ReadInteger {
+    pub value: i32,
+    pub next: usize,
+}
+
+// A label of a sheet, and the place after it.
+#[derive(Clone, Copy)]
+pub(crate) struct ReadLabel<L> {
+    pub label: L,
+    pub next: usize,
+}
+
 // What a sheet's heading says: a draft with its nodes, how many lines are to come, and the place after.
 #[derive(Drop)]
 pub(crate) struct Heading {
