@@ -3,3 +3,4 @@ pub mod Order
 pub mod Form
 pub mod Clauses
 pub mod Numbers
+pub mod Integers

@@ -2,3 +2,5 @@ mod Groups
 mod Rests
 mod Places
 mod Coded
+mod Slots
+mod Readings

@@ -1,0 +1,5 @@
+pub mod Coord
+pub mod Groups
+pub mod Screws
+pub mod Semidirect
+pub mod Triples

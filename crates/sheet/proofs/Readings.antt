@@ -1,0 +1,26 @@
+-- What the answer of a label's reading tells of its numbers.
+use mathlib.Core.Path.{_≡_, refl, sym, ap}
+use mathlib.Core.Logic.{_⊎_, inl, inr}
+use mathlib.Core.Bool.{Bool, true, false}
+use Prim.Native.Nat.{ℕ}
+use native.Mathlib.Omega.{arith}
+use Rattle.std.specs.declared.option.Option.{Option}
+use Rattle.std.specs.declared.option.Option.the-variants.{Some, None}
+use Rattle.std.specs.declared.result.Result.the-variants.{Ok, Err}
+use Rattle.label.specs.Clauses.{Read-as}
+use Rattle.label.specs.declared.refusals.LabelFault.{LabelFault}
+use Rattle.label.specs.declared.refusals.LabelFault.the-variants.{OutOfRange, NoPermutation}
+
+ok-err : {X Y : Type 0} (x : X) (y : Y) → Ok {E = Y} x ≡ Err y → ⊥
+ok-err x y e = let z : _≡_ {A = ℕ} 0 1 = cc in omega arith
+
+module _ {L M : Type 0} (stands : L → M) where
+  pub read-ok : (b : Bool) (o : Option M) (l : L) → Read-as stands b o (Ok l) → (b ≡ true) × (o ≡ Some (stands l))
+  read-ok false o l e = absurd (ok-err _ _ e)
+  read-ok true None l e = absurd (ok-err _ _ e)
+  read-ok true (Some m) l e = (refl, ap Some (sym e))
+
+  pub read-err : (b : Bool) (o : Option M) (f : LabelFault) → Read-as stands b o (Err f) → ((b ≡ false) × (f ≡ OutOfRange)) ⊎ ((b ≡ true) × (o ≡ None) × (f ≡ NoPermutation))
+  read-err false o f e = inl (refl, cc)
+  read-err true None f e = inr (refl, refl, cc)
+  read-err true (Some m) f e = absurd e
