@@ -1,6 +1,10 @@
 pub mod Group
 pub mod Order
+pub mod Integers
 pub mod Form
+pub mod Fits
+pub mod PairCount
+pub mod PairForm
+pub mod PairReading
 pub mod Clauses
 pub mod Numbers
-pub mod Integers

@@ -1,9 +1,12 @@
 // Label kinds: a group and a total order behind every stored label, and a written form.
+mod kind;
+mod pairs;
 mod refusals;
 mod written;
-mod kind;
 
 pub use kind::Label;
+pub use pairs::Pair;
+pub use pairs::PairLabel;
 pub use refusals::LabelFault;
 pub use refusals::LabelFaultDebug;
 pub use refusals::NoWrittenForm;

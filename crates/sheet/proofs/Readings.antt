@@ -6,12 +6,13 @@ use Prim.Native.Nat.{ℕ}
 use native.Mathlib.Omega.{arith}
 use Rattle.std.specs.declared.option.Option.{Option}
 use Rattle.std.specs.declared.option.Option.the-variants.{Some, None}
+use Rattle.std.specs.declared.result.Result.{Result}
 use Rattle.std.specs.declared.result.Result.the-variants.{Ok, Err}
 use Rattle.label.specs.Clauses.{Read-as}
 use Rattle.label.specs.declared.refusals.LabelFault.{LabelFault}
 use Rattle.label.specs.declared.refusals.LabelFault.the-variants.{OutOfRange, NoPermutation}
 
-ok-err : {X Y : Type 0} (x : X) (y : Y) → Ok {E = Y} x ≡ Err y → ⊥
+ok-err : {X Y : Type 0} (x : X) (y : Y) → _≡_ {A = Result X Y} (Ok x) (Err y) → ⊥
 ok-err x y e = let z : _≡_ {A = ℕ} 0 1 = cc in omega arith
 
 module _ {L M : Type 0} (stands : L → M) where

@@ -44,12 +44,6 @@ storable-at (z ∷ ss) (suc i) s st e =
     let t = leZ (least-stored (z .storage)) (z .least) && leZ (z .most) (most-stored (z .storage)) in
     storable-at ss i s (and-parts t (storable ss) st .1) e
 
-pub fit-length : (ss : List Slot) (xs : List ℤ) → fit ss xs ≡ true → length xs ≡ length ss
-fit-length [] [] f = refl
-fit-length [] (x ∷ xs) f = absurd (false≢true f)
-fit-length (s ∷ ss) [] f = absurd (false≢true f)
-fit-length (s ∷ ss) (x ∷ xs) f = ap suc (fit-length ss xs (and-parts (inside s x) (fit ss xs) f .1))
-
 pub fit-push : (ss : List Slot) (xs : List ℤ) (s : Slot) (x : ℤ) → fit ss xs ≡ true → inside s x ≡ true → fit (ss ++ (s ∷ [])) (xs ++ (x ∷ [])) ≡ true
 fit-push [] [] s x f i = and-from (inside s x) true i refl
 fit-push [] (y ∷ xs) s x f i = absurd (false≢true f)
