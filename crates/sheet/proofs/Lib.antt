@@ -4,3 +4,4 @@ mod Places
 mod Coded
 mod Slots
 mod Readings
+mod Spelled

@@ -1,30 +1,66 @@
+use mathlib.Core.Path.{_≡_, refl, sym, ap, subst, _∙_}
+use Prim.Native.Nat.{ℕ, _+_, _-_, _<_, _≤_}
+use native.Mathlib.Omega.{arith}
 use borrow.Author.Needs.{needs}
+use lib.IntN.{ℤ}
+use lib.ListN.{length, length-set, set, take}
+use mathlib.Core.List.{List}
+use mir.Syntax.{w32}
+use mir.Val.{SFits, toZ, ofZ}
+use Rattle.std.proofs.shelf.Results.{err-from-errBy}
+use Rattle.std.proofs.shelf.Signed.{toZ-ofZ}
+use Rattle.std.specs.declared.result.Result.the-variants.{Ok, Err}
+use Rattle.label.specs.Clauses.{ReadClause}
+use Rattle.sheet.proofs.Places.{numbers-none}
+use Rattle.sheet.proofs.Slots.{nth-some}
+use Rattle.sheet.proofs.Spelled.{Spelled, spelled-more, spelled-fault, Spelled-out, spelled-all, label-made, label-refused}
 use Rattle.sheet.proofs.labels.label_at.Needs as need
 
--- src/labels.rt:76:5
 pub loop-i-holds : need.loop-i-holds
-loop-i-holds g c = ?
+loop-i-holds g c = (refl, record { fits = refl; at = numbers-none (c .args .bytes .now) (c .args .place) (c .pre) })
 
--- src/labels.rt:77:22
 pub label-number-at-requires : need.label-number-at-requires
-label-number-at-requires g c κs = ?
+label-number-at-requires g c κs = (c .loop-i .inv .1 .at .within, omega (arith, c .width-width .ensures, c .loop-i-test .taken))
 
--- src/labels.rt:77:22
 pub returns-in-Break-number : need.returns-in-Break-number
-returns-in-Break-number g c = ?
+returns-in-Break-number g c =
+    let F = g .L·Label .form in
+    let p = err-from-errBy (c .from-residual .result) (c .from-residual .ensures .1) in
+    let inside : c .loop-i .i < length (F .slots) = omega (arith, c .width-width .ensures, c .loop-i-test .taken) in
+    let s = nth-some (F .slots) (c .loop-i .i) inside in
+    rw (p .1, p .2) (spelled-fault F (c .args .bytes .now) (c .args .place) (c .loop-i .i) (c .loop-i .numbers) (c .loop-i .next) (s .0) inside (s .1) (c .loop-i .inv .1) (c .in-Break-number .ensures tt (s .0) (s .1)))
 
--- src/labels.rt:76:5
 pub loop-i-again : need.loop-i-again
-loop-i-again g c = ?
+loop-i-again g c =
+    let F = g .L·Label .form in
+    let few = F .few in
+    let i = c .loop-i .i in
+    let xs = c .loop-i .numbers in
+    let inside : i < length (F .slots) = omega (arith, c .width-width .ensures, c .loop-i-test .taken) in
+    let held : i < length xs = omega (arith, c .loop-i .inv .0) in
+    let s = nth-some (F .slots) i inside in
+    let n = c .in-Continue-number .number in
+    let f : SFits w32 (n .value) = search needs in
+    (length-set xs i (toZ w32 (ofZ w32 (n .value))) ∙ c .loop-i .inv .0,
+     subst (λ (x : ℤ). Spelled F (c .args .bytes .now) (c .args .place) (i + 1) (set xs i x) (n .next)) (sym (toZ-ofZ w32 (n .value) f))
+     (spelled-more F (c .args .bytes .now) (c .args .place) i xs (c .loop-i .next) (s .0) (n .value) (n .next) held (s .1) (c .loop-i .inv .1) (c .in-Continue-number .ensures tt (s .0) (s .1))))
 
--- src/labels.rt:81:19
-pub part-read-end : need.part-read-end
-part-read-end g c = ?
-
--- src/labels.rt:69:1
 pub returns-in-Ok : need.returns-in-Ok
-returns-in-Ok g c = ?
+returns-in-Ok g c =
+    let F = g .L·Label .form in
+    let i = c .loop-i .i in
+    let xs = c .loop-i .numbers in
+    let e : i ≡ c .width-width .result - 0 = omega arith in
+    let out = spelled-all F (c .args .bytes .now) (c .args .place) i xs (c .loop-i .next) (omega (arith, c .width-width .ensures)) (c .loop-i .inv .1) in
+    let out2 = subst (λ (k : ℕ). Spelled-out F (c .args .bytes .now) (c .args .place) (take k xs) (c .loop-i .next)) e out in
+    label-made F (c .args .bytes .now) (c .args .place) (g .L·Label .stands) (take (c .width-width .result - 0) xs) (c .loop-i .next) out2 (c .in-Ok .label) (c .in-Ok .ensures tt)
 
--- src/labels.rt:69:1
 pub returns-in-Err : need.returns-in-Err
-returns-in-Err g c = ?
+returns-in-Err g c =
+    let F = g .L·Label .form in
+    let i = c .loop-i .i in
+    let xs = c .loop-i .numbers in
+    let e : i ≡ c .width-width .result - 0 = omega arith in
+    let out = spelled-all F (c .args .bytes .now) (c .args .place) i xs (c .loop-i .next) (omega (arith, c .width-width .ensures)) (c .loop-i .inv .1) in
+    let out2 = subst (λ (k : ℕ). Spelled-out F (c .args .bytes .now) (c .args .place) (take k xs) (c .loop-i .next)) e out in
+    label-refused F (c .args .bytes .now) (c .args .place) (g .L·Label .stands) (take (c .width-width .result - 0) xs) (c .loop-i .next) out2 (c .in-Err .fault) (c .in-Err .ensures tt)
