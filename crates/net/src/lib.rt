@@ -8,5 +8,6 @@ mod drawing;
 
 pub use drafts::Draft;
 pub use records::Line;
+pub use records::LineClone;
 pub use refusals::NetRefusal;
 pub use refusals::NetRefusalDebug;

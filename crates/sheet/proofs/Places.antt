@@ -12,6 +12,10 @@ use Rattle.sheet.specs.Reading.{Number-at, Numbers-at}
 pub text-push : (ns : List ℕ) (n : ℕ) → text (ns ++ (n ∷ [])) ≡ text ns ++ stored n
 text-push ns n = sym (joined-more stored [] ns n)
 
+pub text-append : (ns ms : List ℕ) → text (ns ++ ms) ≡ text ns ++ text ms
+text-append [] ms = refl
+text-append (n ∷ ns) ms = ap (λ (t : List ℕ). stored n ++ t) (text-append ns ms) ∙ sym (append-assoc (stored n) (text ns) (text ms))
+
 module _ (bytes : List ℕ) (place : ℕ) where
   pub numbers-none : place ≤ length bytes → Numbers-at bytes place [] place
   numbers-none h = record { bytes-are = refl; next-is = sym (add-zero place); within = h }

@@ -7,6 +7,8 @@ use Prim.Native.Nat.{ℕ, _+_, _≤_, _<_}
 use lib.IntN.{ℤ}
 use lib.ListN.{length, take}
 use Rattle.std.specs.shelf.Maps.{nth}
+use Rattle.std.specs.declared.result.Result.{Result}
+use Rattle.std.specs.declared.result.Result.the-variants.{Ok, Err}
 use Rattle.std.specs.declared.option.Option.{Option}
 use Rattle.std.specs.declared.option.Option.the-variants.{Some, None}
 use Rattle.label.specs.Group.{Group}
@@ -30,6 +32,11 @@ use Rattle.sheet.specs.declared.faults.SheetFault.the-variants as sheet
 
 abbrev pub at-place : {F : Type 0} → F → ℕ → Placed F
 at-place f p = record { fault = f; place = p }
+
+-- the same answer, its fault with its place
+abbrev pub placed-at : {T F : Type 0} → Result T F → ℕ → Result T (Placed F)
+placed-at (Ok x) p = Ok x
+placed-at (Err f) p = Err (at-place f p)
 
 -- no number begins the bytes, which begin at a place of a sheet that ends at `end`
 pub data Unreadable (place end : ℕ) (rest : List ℕ) : Placed BytesFault → Type 0 where

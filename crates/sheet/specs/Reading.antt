@@ -9,19 +9,27 @@ use lib.ListN.{length, drop}
 use Rattle.std.specs.declared.result.Result.{Result}
 use Rattle.std.specs.declared.result.Result.the-variants.{Ok, Err}
 use Rattle.sheet.specs.Stored.{Small, stored, text}
-use Rattle.sheet.specs.Faults.{at-place, Unreadable, Nodes-out, Count-out, No-heading, No-label, A-label}
+use Rattle.sheet.specs.Faults.{at-place, Unreadable, Nodes-out, Count-out, No-heading, No-label, A-label, No-line, A-line}
 use Rattle.sheet.specs.declared.faults.Placed.{Placed}
 use Rattle.sheet.specs.declared.faults.BytesFault.{BytesFault}
 use Rattle.sheet.specs.declared.numbers.ReadNumber.{ReadNumber}
 use Rattle.sheet.specs.declared.numbers.Heading.{Heading}
 use Rattle.sheet.specs.declared.numbers.ReadInteger.{ReadInteger}
 use Rattle.sheet.specs.declared.numbers.ReadLabel.{ReadLabel}
+use Rattle.sheet.specs.declared.numbers.ReadLine.{ReadLine}
 use Rattle.sheet.specs.declared.faults.SheetFault.{SheetFault}
 use Rattle.sheet.specs.declared.faults.SheetFault.the-variants as sheet
 use Rattle.sheet.specs.Codes.{code, codes}
 use Rattle.label.specs.Form.{Form, inside}
 use Rattle.label.specs.declared.written.Slot.{Slot}
 use Rattle.label.specs.declared.refusals.LabelFault.the-variants.{OutOfRange}
+use Rattle.net.specs.Model.{line-of}
+use Rattle.net.specs.Verdict.{First}
+use Rattle.net.specs.Rules.{Line-breaks, line-rules}
+use Rattle.net.specs.Model.{net-of}
+use Rattle.net.specs.Clauses.{Drawn-on}
+use Rattle.net.specs.declared.refusals.NetRefusal.{NetRefusal}
+use Rattle.label.specs.Group.{Group}
 use Rattle.net.specs.declared.records.Line.{Line}
 use Rattle.net.specs.declared.drafts.Draft.{Draft}
 
@@ -85,3 +93,29 @@ module _ {L M : Type 0} (F : Form M) (stands : L → M) where
   abbrev pub LabelClause : List ℕ → ℕ → Result (ReadLabel L) SheetFault → Type 0
   LabelClause bytes place (Ok r) = Label-at bytes place (r .label) (r .next)
   LabelClause bytes place (Err f) = No-label F place (length bytes) (drop place bytes) f
+
+  -- a line that was read, and the place after it
+  pub record Line-at (bytes : List ℕ) (place : ℕ) (l : Line L) (next : ℕ) : Type 0 where
+    pub line : A-line F (drop place bytes) (line-of stands l) (drop next bytes)
+    pub next-is : next ≡ place + length (text (l .tail ∷ l .head ∷ codes (F .slots) (line .label .numbers)))
+    pub within : next ≤ length bytes
+
+  abbrev pub LineAtClause : List ℕ → ℕ → Result (ReadLine L) SheetFault → Type 0
+  LineAtClause bytes place (Ok r) = Line-at bytes place (r .line) (r .next)
+  LineAtClause bytes place (Err f) = No-line F place (length bytes) (drop place bytes) f
+
+  -- a line that was read and drawn, and the place after it
+  pub record Drew (G : Group M) (bytes : List ℕ) (place : ℕ) (d : Draft) (list : List (Line L)) (next : ℕ) (d′ : Draft) (list′ : List (Line L)) : Type 0 where
+    pub line : Line L
+    pub at : Line-at bytes place line next
+    pub drawn : Drawn-on G stands d list line d′ list′
+
+  -- why no line was read and drawn
+  pub data No-draw (G : Group M) (bytes : List ℕ) (place : ℕ) (d : Draft) (list : List (Line L)) : SheetFault → Type 0 where
+    unread-line : (f : SheetFault) → No-line F place (length bytes) (drop place bytes) f → No-draw G bytes place d list f
+    refused-line : (l : Line L) (next : ℕ) (e : NetRefusal) → Line-at bytes place l next → First (Line-breaks G (net-of stands d list) (d .room) (length list) (line-of stands l)) e line-rules →
+      No-draw G bytes place d list (sheet.Line (at-place e place))
+
+  abbrev pub DrawClause : Group M → List ℕ → ℕ → Draft → List (Line L) → Result ℕ SheetFault → Draft → List (Line L) → Type 0
+  DrawClause G bytes place d list (Ok next) d′ list′ = Drew G bytes place d list next d′ list′
+  DrawClause G bytes place d list (Err f) d′ list′ = No-draw G bytes place d list f × (d′ ≡ d) × (list′ ≡ list)

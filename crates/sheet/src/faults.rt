@@ -1,4 +1,5 @@
 ghost use mathlib.Core.Path.{_≡_};
+ghost use Rattle.sheet.specs.Faults.{placed-at};
 ghost use Rattle.sheet.specs.Numbers.{bytes-number, fault-number, fault-place, fault-layer, write-number};
 ghost use Rattle.sheet.specs.declared.faults.SheetFault.the-variants.{Bytes, Label, Line};
 use label::LabelFault;
@@ -40,6 +41,16 @@ impl BytesFault {
 pub struct Placed<F> {
     pub fault: F,
     pub place: usize,
+}
+
+// The same answer, its fault with its place.
+pub(crate) fn at_place<T, F>(answer: Result<T, F>, place: usize) -> Result<T, Placed<F>>
+    ensures { λ r. ⌜ r ≡ placed-at answer place ⌝ }
+{
+    match answer {
+        Ok(value) => Ok(value),
+        Err(fault) => Err(Placed { fault, place }),
+    }
 }
 
 // Why reading a sheet is refused, by layer.

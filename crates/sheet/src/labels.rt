@@ -15,6 +15,7 @@ use crate::faults::FromBytes;
 use crate::faults::FromLabel;
 use crate::faults::Placed;
 use crate::faults::SheetFault;
+use crate::faults::at_place;
 use crate::numbers::ReadInteger;
 use crate::numbers::ReadLabel;
 use crate::numbers::number_at;
@@ -78,8 +79,6 @@ pub(crate) fn label_at<L: Label>(bytes: &[u8], place: usize) -> Result<ReadLabel
         numbers[i] = number.value;
         next = number.next;
     }
-    match L::read(&numbers[0..width]) {
-        Ok(label) => Ok(ReadLabel { label, next }),
-        Err(fault) => Err(SheetFault::Label(Placed { fault, place })),
-    }
+    let label = at_place(L::read(&numbers[0..width]), place)?;
+    Ok(ReadLabel { label, next })
 }

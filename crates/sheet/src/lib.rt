@@ -4,6 +4,7 @@ mod kinds;
 mod numbers;
 mod headings;
 mod labels;
+mod lines;
 
 pub use faults::BytesFault;
 pub use faults::Placed;

@@ -4,6 +4,8 @@ ghost use Rattle.sheet.specs.Reading.{NumberClause};
 use crate::faults::BytesFault;
 use crate::faults::Placed;
 use net::Draft;
+use net::Line;
+use net::LineClone;
 
 // A number of a sheet, and the place after it.
 #[derive(Clone, Copy)]
@@ -23,6 +25,13 @@ pub(crate) struct ReadInteger {
 #[derive(Clone, Copy)]
 pub(crate) struct ReadLabel<L> {
     pub label: L,
+    pub next: usize,
+}
+
+// A line of a sheet, and the place after it.
+#[derive(Clone, Copy)]
+pub(crate) struct ReadLine<L> {
+    pub line: Line<L>,
     pub next: usize,
 }
 

@@ -9,12 +9,18 @@ use mir.Syntax.{w32}
 use mir.Val.{SFits, toZ, ofZ}
 use Rattle.std.proofs.shelf.Results.{err-from-errBy}
 use Rattle.std.proofs.shelf.Signed.{toZ-ofZ}
-use Rattle.std.specs.declared.result.Result.the-variants.{Ok, Err}
-use Rattle.label.specs.Clauses.{ReadClause}
+use Rattle.label.specs.Form.{Form}
 use Rattle.sheet.proofs.Places.{numbers-none}
 use Rattle.sheet.proofs.Slots.{nth-some}
+use Rattle.sheet.proofs.Readings.{placed-ok, placed-err}
 use Rattle.sheet.proofs.Spelled.{Spelled, spelled-more, spelled-fault, Spelled-out, spelled-all, label-made, label-refused}
 use Rattle.sheet.proofs.labels.label_at.Needs as need
+
+-- the part of the buffer that is read is the numbers of the label
+all-read : {M : Type 0} (F : Form M) (bytes : List ℕ) (place i width : ℕ) (xs : List ℤ) (next : ℕ) → i ≡ width → length (F .slots) ≤ i → Spelled F bytes place i xs next → Spelled-out F bytes place (take (width - 0) xs) next
+all-read F bytes place i width xs next e h before =
+    let f : i ≡ width - 0 = omega arith in
+    subst (λ (k : ℕ). Spelled-out F bytes place (take k xs) next) f (spelled-all F bytes place i xs next h before)
 
 pub loop-i-holds : need.loop-i-holds
 loop-i-holds g c = (refl, record { fits = refl; at = numbers-none (c .args .bytes .now) (c .args .place) (c .pre) })
@@ -45,22 +51,21 @@ loop-i-again g c =
      subst (λ (x : ℤ). Spelled F (c .args .bytes .now) (c .args .place) (i + 1) (set xs i x) (n .next)) (sym (toZ-ofZ w32 (n .value) f))
      (spelled-more F (c .args .bytes .now) (c .args .place) i xs (c .loop-i .next) (s .0) (n .value) (n .next) held (s .1) (c .loop-i .inv .1) (c .in-Continue-number .ensures tt (s .0) (s .1))))
 
-pub returns-in-Ok : need.returns-in-Ok
-returns-in-Ok g c =
+pub returns-in-Break-label : need.returns-in-Break-label
+returns-in-Break-label g c =
     let F = g .L·Label .form in
     let i = c .loop-i .i in
     let xs = c .loop-i .numbers in
-    let e : i ≡ c .width-width .result - 0 = omega arith in
-    let out = spelled-all F (c .args .bytes .now) (c .args .place) i xs (c .loop-i .next) (omega (arith, c .width-width .ensures)) (c .loop-i .inv .1) in
-    let out2 = subst (λ (k : ℕ). Spelled-out F (c .args .bytes .now) (c .args .place) (take k xs) (c .loop-i .next)) e out in
-    label-made F (c .args .bytes .now) (c .args .place) (g .L·Label .stands) (take (c .width-width .result - 0) xs) (c .loop-i .next) out2 (c .in-Ok .label) (c .in-Ok .ensures tt)
+    let p = err-from-errBy (c .from-residual-in-Break-label .result) (c .from-residual-in-Break-label .ensures .1) in
+    let q = placed-err (c .args .place) (c .read .result) (c .in-Break-label .field-0 .0) (c .in-Break-label .ensures tt) in
+    let out = all-read F (c .args .bytes .now) (c .args .place) i (c .width-width .result) xs (c .loop-i .next) (omega arith) (omega (arith, c .width-width .ensures)) (c .loop-i .inv .1) in
+    rw (p .1, p .2, q .2) (label-refused F (c .args .bytes .now) (c .args .place) (g .L·Label .stands) (take (c .width-width .result - 0) xs) (c .loop-i .next) out (q .0) (rw (q .1) at (c .read .ensures)))
 
-pub returns-in-Err : need.returns-in-Err
-returns-in-Err g c =
+pub returns : need.returns
+returns g c =
     let F = g .L·Label .form in
     let i = c .loop-i .i in
     let xs = c .loop-i .numbers in
-    let e : i ≡ c .width-width .result - 0 = omega arith in
-    let out = spelled-all F (c .args .bytes .now) (c .args .place) i xs (c .loop-i .next) (omega (arith, c .width-width .ensures)) (c .loop-i .inv .1) in
-    let out2 = subst (λ (k : ℕ). Spelled-out F (c .args .bytes .now) (c .args .place) (take k xs) (c .loop-i .next)) e out in
-    label-refused F (c .args .bytes .now) (c .args .place) (g .L·Label .stands) (take (c .width-width .result - 0) xs) (c .loop-i .next) out2 (c .in-Err .fault) (c .in-Err .ensures tt)
+    let q = placed-ok (c .args .place) (c .read .result) (c .in-Continue-label .label) (c .in-Continue-label .ensures tt) in
+    let out = all-read F (c .args .bytes .now) (c .args .place) i (c .width-width .result) xs (c .loop-i .next) (omega arith) (omega (arith, c .width-width .ensures)) (c .loop-i .inv .1) in
+    label-made F (c .args .bytes .now) (c .args .place) (g .L·Label .stands) (take (c .width-width .result - 0) xs) (c .loop-i .next) out (c .in-Continue-label .label) (rw q at (c .read .ensures))
