@@ -1,3 +1,3 @@
 pub mod Verdicts
-mod Steps
+pub mod Steps
 mod Drawings

@@ -5,3 +5,4 @@ mod Coded
 mod Slots
 mod Readings
 mod Spelled
+mod Progress

@@ -5,9 +5,11 @@ mod numbers;
 mod headings;
 mod labels;
 mod lines;
+mod reading;
 
 pub use faults::BytesFault;
 pub use faults::Placed;
 pub use faults::SheetFault;
 pub use faults::WriteRefusal;
 pub use kinds::SheetKind;
+pub use reading::read;
