@@ -1,0 +1,5 @@
+pub mod Occurrences
+pub mod Laws
+pub mod Packed
+pub mod Compared
+pub mod Written

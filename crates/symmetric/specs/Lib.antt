@@ -1,0 +1,4 @@
+pub mod Images
+pub mod Packing
+pub mod FromLeft
+pub mod Written
