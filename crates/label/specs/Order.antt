@@ -56,13 +56,13 @@ module _ {A B : Type 0} (O : Order A) (P : Order B) where
   pub pair-chain : (x y z : A × B) → pair-cmp x y ≡ Less → pair-cmp y z ≡ Less → pair-cmp x z ≡ Less
   pair-chain x y z e f =
       elim (then-less (O .cmp (x .0) (y .0)) (P .cmp (x .1) (y .1)) e) [
-        inl l ↦ elim (then-less (O .cmp (y .0) (z .0)) (P .cmp (y .1) (z .1)) f) [
-          inl m ↦ then-is (O .chain (x .0) (y .0) (z .0) l m) refl
-        | inr m ↦ then-is (subst (λ w. O .cmp (x .0) w ≡ Less) (O .same (y .0) (z .0) (m .0)) l) refl
+        | inl l ↦ elim (then-less (O .cmp (y .0) (z .0)) (P .cmp (y .1) (z .1)) f) [
+          | inl m ↦ then-is (O .chain (x .0) (y .0) (z .0) l m) refl
+          | inr m ↦ then-is (subst (λ w. O .cmp (x .0) w ≡ Less) (O .same (y .0) (z .0) (m .0)) l) refl
         ]
-      | inr l ↦ elim (then-less (O .cmp (y .0) (z .0)) (P .cmp (y .1) (z .1)) f) [
-          inl m ↦ then-is (subst (λ w. O .cmp w (z .0) ≡ Less) (sym (O .same (x .0) (y .0) (l .0))) m) refl
-        | inr m ↦ then-is (subst (λ w. O .cmp w (z .0) ≡ Equal) (sym (O .same (x .0) (y .0) (l .0))) (m .0)) (P .chain (x .1) (y .1) (z .1) (l .1) (m .1))
+        | inr l ↦ elim (then-less (O .cmp (y .0) (z .0)) (P .cmp (y .1) (z .1)) f) [
+          | inl m ↦ then-is (subst (λ w. O .cmp w (z .0) ≡ Less) (sym (O .same (x .0) (y .0) (l .0))) m) refl
+          | inr m ↦ then-is (subst (λ w. O .cmp w (z .0) ≡ Equal) (sym (O .same (x .0) (y .0) (l .0))) (m .0)) (P .chain (x .1) (y .1) (z .1) (l .1) (m .1))
         ]
       ]
 

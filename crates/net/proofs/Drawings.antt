@@ -47,9 +47,9 @@ module _ {L M : Type 0} (G : Group M) (stands : L → M) (d d′ : Draft) (list 
   line-drawn l h counted nodes room n =
       let after = set list (d .lines) l in
       let lines : lines-of stands (d′ .lines) after ≡ lines-of stands (d .lines) list ++ (line-of stands l ∷ []) =
-        ap (λ k. lines-of stands k after) counted ∙ ap (map (line-of stands)) (take-more-set list (d .lines) l h) ∙ map-push (line-of stands) (take (d .lines) list) l in
+      ap (λ k. lines-of stands k after) counted ∙ ap (map (line-of stands)) (take-more-set list (d .lines) l h) ∙ map-push (line-of stands) (take (d .lines) list) l in
       let net : net-of stands d′ after ≡ with-line (net-of stands d list) (line-of stands l) =
-        ap (λ (k : ℕ). let m : mesh.Net M = record { nodes = k; lines = lines-of stands (d′ .lines) after } in m) nodes ∙ ap (λ (ls : List (mesh.Line M)). let m : mesh.Net M = record { nodes = d .nodes; lines = ls } in m) lines in
+      ap (λ (k : ℕ). let m : mesh.Net M = record { nodes = k; lines = lines-of stands (d′ .lines) after } in m) nodes ∙ ap (λ (ls : List (mesh.Line M)). let m : mesh.Net M = record { nodes = d .nodes; lines = ls } in m) lines in
       record {
         wrote = refl;
         counted = counted;
@@ -65,9 +65,9 @@ module _ {L M : Type 0} (G : Group M) (stands : L → M) (d d′ : Draft) (list 
       let more : suc (d′ .lines) ≡ d .lines = omega arith in
       let l = line-of stands (last .0) in
       let lines : lines-of stands (d .lines) list ≡ lines-of stands (d′ .lines) list ++ (l ∷ []) =
-        ap (λ k. lines-of stands k list) (sym more) ∙ ap (map (line-of stands)) (last .1) ∙ map-push (line-of stands) (take (d′ .lines) list) (last .0) in
+      ap (λ k. lines-of stands k list) (sym more) ∙ ap (map (line-of stands)) (last .1) ∙ map-push (line-of stands) (take (d′ .lines) list) (last .0) in
       let net : net-of stands d list ≡ with-line (net-of stands d′ list) l =
-        ap (λ (k : ℕ). let m : mesh.Net M = record { nodes = k; lines = lines-of stands (d .lines) list } in m) (sym nodes) ∙ ap (λ (ls : List (mesh.Line M)). let m : mesh.Net M = record { nodes = d′ .nodes; lines = ls } in m) lines in
+      ap (λ (k : ℕ). let m : mesh.Net M = record { nodes = k; lines = lines-of stands (d .lines) list } in m) (sym nodes) ∙ ap (λ (ls : List (mesh.Line M)). let m : mesh.Net M = record { nodes = d′ .nodes; lines = ls } in m) lines in
       record {
         counted = counted;
         same-nodes = nodes;

@@ -36,12 +36,12 @@ module _ {L M : Type 0} (stands : L → M) (list : List (Line L)) where
     taken-at p i k x h read le given =
         let rest = map (line-of stands) (drop (i + 1) (take k list)) in
         let here : In p (ports-of G u (lines-of stands (i + 1) list)) =
-          subst (λ (q : List (Port M)). In p q) (sym (ap (ports-of G u) (lines-more i x h read) ∙ ports-push G u (lines-of stands i list) (line-of stands x))) (in-right p (ports-of G u (lines-of stands i list)) (line-ports G u (line-of stands x)) given) in
+        subst (λ (q : List (Port M)). In p q) (sym (ap (ports-of G u) (lines-more i x h read) ∙ ports-push G u (lines-of stands i list) (line-of stands x))) (in-right p (ports-of G u (lines-of stands i list)) (line-ports G u (line-of stands x)) given) in
         subst (λ (q : List (Port M)). In p q) (sym (ap (ports-of G u) (lines-split (i + 1) k le) ∙ ports-append G u (lines-of stands (i + 1) list) rest)) (in-left p (ports-of G u (lines-of stands (i + 1) list)) (ports-of G u rest) here)
 
     -- a port that neither the first i records give nor record i is not among those of the first i + 1
     pub untaken-more : (p : Port M) (i : ℕ) (x : Line L) → i < length list → x ≡ getD list i x → (In p (ports-of G u (lines-of stands i list)) → ⊥) → (In p (line-ports G u (line-of stands x)) → ⊥) → In p (ports-of G u (lines-of stands (i + 1) list)) → ⊥
     untaken-more p i x h read before here j =
         let both : In p (ports-of G u (lines-of stands i list) ++ line-ports G u (line-of stands x)) =
-          subst (λ (q : List (Port M)). In p q) (ap (ports-of G u) (lines-more i x h read) ∙ ports-push G u (lines-of stands i list) (line-of stands x)) j in
+        subst (λ (q : List (Port M)). In p q) (ap (ports-of G u) (lines-more i x h read) ∙ ports-push G u (lines-of stands i list) (line-of stands x)) j in
         elim (in-either p (ports-of G u (lines-of stands i list)) (line-ports G u (line-of stands x)) both) [ inl a ↦ before a | inr b ↦ here b ]

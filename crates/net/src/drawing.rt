@@ -1,4 +1,3 @@
-ghost use mathlib.Core.Path.{_≡_};
 ghost use Rattle.net.specs.Clauses.{OpenClause, LineClause, BackClause, PortsClause};
 use crate::drafts::Draft;
 use crate::ports::port_count;
@@ -17,7 +16,11 @@ impl Draft {
         if nodes < 1 || nodes > MOST_NODES {
             return Err(NetRefusal::NodesOutOfRange);
         }
-        Ok(Draft { nodes, lines: 0, room: list.len() })
+        Ok(Draft {
+            nodes,
+            lines: 0,
+            room: list.len(),
+        })
     }
 
     // Draws one more line, the last.
@@ -55,19 +58,5 @@ impl Draft {
             return Err(NetRefusal::NoSuchNode);
         }
         Ok(port_count(list, self.lines, node))
-    }
-
-    // How many nodes the net has.
-    pub fn nodes(&self) -> u32
-        ensures { λ r. ⌜ r ≡ now (self .entry) .nodes ⌝ }
-    {
-        self.nodes
-    }
-
-    // How many lines the net has: they are the first of its list.
-    pub fn lines(&self) -> usize
-        ensures { λ r. ⌜ r ≡ now (self .entry) .lines ⌝ }
-    {
-        self.lines
     }
 }

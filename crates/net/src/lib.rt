@@ -1,10 +1,11 @@
 // Nets: drawing a voltage graph line by line into a lent list.
-mod refusals;
-mod records;
+mod counts;
 mod drafts;
-mod rules;
-mod ports;
 mod drawing;
+mod ports;
+mod records;
+mod refusals;
+mod rules;
 
 pub use drafts::Draft;
 pub use records::Line;

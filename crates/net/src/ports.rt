@@ -48,7 +48,9 @@ fn repeats<L: Label>(old: Line<L>, line: Line<L>) -> bool
     ensures { λ r. ⌜ When r (In (ahead (line-of (L·Label .stands) line)) (line-ports (L·Label .group) (line .tail) (line-of (L·Label .stands) old))) (In (ahead (line-of (L·Label .stands) line)) (line-ports (L·Label .group) (line .tail) (line-of (L·Label .stands) old)) → ⊥) ⌝ }
 {
     let ahead = old.tail == line.tail && old.head == line.head && same(line.label, old.label);
-    let back = old.head == line.tail && old.tail == line.head && same(line.label, old.label.inverse());
+    let back = old.head == line.tail
+        && old.tail == line.head
+        && same(line.label, old.label.inverse());
     ahead || back
 }
 

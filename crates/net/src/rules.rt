@@ -17,6 +17,7 @@ use label::Label;
 
 // The most lines that a net has, and the most ports of a node.
 const MOST_LINES: usize = 96;
+
 const MOST_PORTS: usize = 12;
 
 // Whether the label may stand on a line, where the line is a loop.

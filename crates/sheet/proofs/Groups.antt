@@ -50,4 +50,4 @@ bytes-three a b c h₁ h₂ h₃ h₄ h₅ h₆ =
     let middle : 128 + n / 128 % 128 ≡ b = ap (λ (x : ℕ). 128 + x % 128) rest ∙ low-group b c h₃ h₄ in
     let high : n / 128 / 128 % 128 ≡ c = ap (λ (x : ℕ). x / 128 % 128) rest ∙ ap (λ (x : ℕ). x % 128) (high-groups b c h₃ h₄) ∙ last in
     stored-three n (omega arith) ∙ ap (λ (x : ℕ). x ∷ (128 + n / 128 % 128) ∷ n / 128 / 128 % 128 ∷ []) (low-group a m h₁ h₂)
-      ∙ ap (λ (y : ℕ). a ∷ y ∷ n / 128 / 128 % 128 ∷ []) middle ∙ ap (λ (z : ℕ). a ∷ b ∷ z ∷ []) high
+    ∙ ap (λ (y : ℕ). a ∷ y ∷ n / 128 / 128 % 128 ∷ []) middle ∙ ap (λ (z : ℕ). a ∷ b ∷ z ∷ []) high

@@ -24,10 +24,10 @@ module _ (bytes : List ℕ) (place : ℕ) where
   numbers-more ns p n q before one = record {
     bytes-are = before .bytes-are ∙ ap (λ (r : List ℕ). text ns ++ r) (one .bytes-are) ∙ sym (append-assoc (text ns) (stored n) (drop q bytes)) ∙ ap (λ (t : List ℕ). t ++ drop q bytes) (sym (text-push ns n));
     next-is =
-      let long : length (text (ns ++ (n ∷ []))) ≡ length (text ns) + length (stored n) = ap length (text-push ns n) ∙ length-append (text ns) (stored n) in
-      let a = before .next-is in
-      let b = one .next-is in
-      omega arith;
+        let long : length (text (ns ++ (n ∷ []))) ≡ length (text ns) + length (stored n) = ap length (text-push ns n) ∙ length-append (text ns) (stored n) in
+        let a = before .next-is in
+        let b = one .next-is in
+        omega arith;
     within = one .within;
   }
 

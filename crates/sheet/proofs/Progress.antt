@@ -40,8 +40,8 @@ numbers-append : (bs : List ℕ) (place p q : ℕ) (ns ms : List ℕ) → Number
 numbers-append bs place p q ns ms a b = record {
   bytes-are = a .bytes-are ∙ ap (λ (r : List ℕ). text ns ++ r) (b .bytes-are) ∙ sym (append-assoc (text ns) (text ms) (drop q bs)) ∙ ap (λ (t : List ℕ). t ++ drop q bs) (sym (text-append ns ms));
   next-is =
-    let long : length (text (ns ++ ms)) ≡ length (text ns) + length (text ms) = ap length (text-append ns ms) ∙ length-append (text ns) (text ms) in
-    omega (arith, a .next-is, b .next-is, long);
+      let long : length (text (ns ++ ms)) ≡ length (text ns) + length (text ms) = ap length (text-append ns ms) ∙ length-append (text ns) (text ms) in
+      omega (arith, a .next-is, b .next-is, long);
   within = b .within;
 }
 
@@ -63,10 +63,10 @@ module _ {L M : Type 0} (G : Group M) (F : Form M) (stands : L → M) where
       let told : F .tells (stands (l .label)) ≡ Some xs = F .again xs (stands (l .label)) (a .label .ranges) (a .label .label) in
       let same : codes (F .slots) xs ≡ codes (F .slots) (valueOr (F .tells (stands (l .label))) []) = ap (λ o. codes (F .slots) (valueOr o [])) (sym told) in
       let whole : Numbers-at bs place (l .tail ∷ l .head ∷ ns) next = record {
-          bytes-are = a .ends ∙ ap (λ (r : List ℕ). text (l .tail ∷ l .head ∷ []) ++ r) (a .label .bytes) ∙ sym (append-assoc (text (l .tail ∷ l .head ∷ [])) (text ns) (drop next bs)) ∙ ap (λ (t : List ℕ). t ++ drop next bs) (sym (text-append (l .tail ∷ l .head ∷ []) ns));
-          next-is = at .next-is;
-          within = at .within;
-        } in
+        bytes-are = a .ends ∙ ap (λ (r : List ℕ). text (l .tail ∷ l .head ∷ []) ++ r) (a .label .bytes) ∙ sym (append-assoc (text (l .tail ∷ l .head ∷ [])) (text ns) (drop next bs)) ∙ ap (λ (t : List ℕ). t ++ drop next bs) (sym (text-append (l .tail ∷ l .head ∷ []) ns));
+        next-is = at .next-is;
+        within = at .within;
+      } in
       (xs, told, subst (λ (ms : List ℕ). Numbers-at bs place (l .tail ∷ l .head ∷ ms) next) same whole)
 
   module _ (kind : ℕ) (bs : List ℕ) (list0 : List (Line L)) (count : ℕ) where
@@ -99,13 +99,13 @@ module _ {L M : Type 0} (G : Group M) (F : Form M) (stands : L → M) where
           drawn = w .drawn .drawn (u .drawn);
           written = subst (All-written F) (sym lines) (written-push F ls l (step .0) (u .written) (step .1));
           numbers =
-            let n = d .nodes in
-            let same : numbers-so-far F kind n count ls ++ line-numbers F l ≡ numbers-so-far F kind (d′ .nodes) count (lines-of stands (d′ .lines) list′) =
+              let n = d .nodes in
+              let same : numbers-so-far F kind n count ls ++ line-numbers F l ≡ numbers-so-far F kind (d′ .nodes) count (lines-of stands (d′ .lines) list′) =
               sym (so-far-push F kind n count ls l) ∙ ap (numbers-so-far F kind n count) (sym lines) ∙ ap (λ (m : ℕ). numbers-so-far F kind m count (lines-of stands (d′ .lines) list′)) (sym (w .drawn .same-nodes)) in
-            subst (λ (ns : List ℕ). Numbers-at bs 0 ns next) same (numbers-append bs 0 place next (numbers-so-far F kind n count ls) (line-numbers F l) (u .numbers) (step .2));
+              subst (λ (ns : List ℕ). Numbers-at bs 0 ns next) same (numbers-append bs 0 place next (numbers-so-far F kind n count ls) (line-numbers F l) (u .numbers) (step .2));
           past =
-            ap (λ (m : ℕ). drop m list′) (w .drawn .counted) ∙ ap (drop (d .lines + 1)) (w .drawn .wrote) ∙ drop-set-lt (d .lines + 1) list (d .lines) (w .line) (omega arith)
-            ∙ sym (one-more list) ∙ ap (drop 1) (u .past) ∙ one-more list0 ∙ ap (λ (m : ℕ). drop m list0) (sym (w .drawn .counted));
+              ap (λ (m : ℕ). drop m list′) (w .drawn .counted) ∙ ap (drop (d .lines + 1)) (w .drawn .wrote) ∙ drop-set-lt (d .lines + 1) list (d .lines) (w .line) (omega arith)
+              ∙ sym (one-more list) ∙ ap (drop 1) (u .past) ∙ one-more list0 ∙ ap (λ (m : ℕ). drop m list0) (sym (w .drawn .counted));
         }
 
     module _ (d : Draft) (list : List (Line L)) (k place : ℕ) (u : Underway d list k place) where
@@ -136,22 +136,22 @@ module _ {L M : Type 0} (G : Group M) (F : Form M) (stands : L → M) where
           let broken = subst (λ (p : ℕ). First (Line-breaks G (net-of stands d list) p (length list) (line-of stands l)) e line-rules) room first in
           let broken2 = subst (λ (p : ℕ). First (Line-breaks G (net-of stands d list) (length list0) p (line-of stands l)) e line-rules) (u .long) broken in
           refused (subst (λ (p : ℕ). Refused F G kind (length list0) bs (lines-of stands (d .lines) list) (fault.Line (at-place e p))) placed
-            (faults.rule (d .nodes) count (lines-of stands (d .lines) list) (line-of stands l) (drop place bs) (drop next bs) e begins (omega (arith, many-lines, u .many)) (at .line) broken2))
+          (faults.rule (d .nodes) count (lines-of stands (d .lines) list) (line-of stands l) (drop place bs) (drop next bs) e begins (omega (arith, many-lines, u .many)) (at .line) broken2))
 
       -- bytes are left over
       pub underway-left : k ≡ count → place < length bs → Was-refused G F stands kind bs list0 (fault.Bytes (at-place bytes.LeftOver place)) list
       underway-left e h =
           let some : drop place bs ≢ [] = λ z. let none : _≡_ {A = ℕ} (length (drop place bs)) 0 = ap length z in omega (arith, none, length-drop place bs) in
           refused (subst (λ (p : ℕ). Refused F G kind (length list0) bs (lines-of stands (d .lines) list) (fault.Bytes (at-place bytes.LeftOver p))) placed
-            (faults.left-over (d .nodes) count (lines-of stands (d .lines) list) (drop place bs) begins (many-lines ∙ u .many ∙ e) some))
+          (faults.left-over (d .nodes) count (lines-of stands (d .lines) list) (drop place bs) begins (many-lines ∙ u .many ∙ e) some))
 
       -- all is read
       pub underway-done : k ≡ count → length bs ≤ place → Was-read G F stands kind bs list0 d list
       underway-done e h = record {
         bytes-are =
-          u .numbers .bytes-are ∙ ap (λ (r : List ℕ). text (numbers-so-far F kind (d .nodes) count (lines-of stands (d .lines) list)) ++ r) (drop-all place bs h)
-          ∙ append-nil (text (numbers-so-far F kind (d .nodes) count (lines-of stands (d .lines) list)))
-          ∙ ap (λ (m : ℕ). text (numbers-so-far F kind (d .nodes) m (lines-of stands (d .lines) list))) (sym (many-lines ∙ u .many ∙ e));
+            u .numbers .bytes-are ∙ ap (λ (r : List ℕ). text (numbers-so-far F kind (d .nodes) count (lines-of stands (d .lines) list)) ++ r) (drop-all place bs h)
+            ∙ append-nil (text (numbers-so-far F kind (d .nodes) count (lines-of stands (d .lines) list)))
+            ∙ ap (λ (m : ℕ). text (numbers-so-far F kind (d .nodes) m (lines-of stands (d .lines) list))) (sym (many-lines ∙ u .many ∙ e));
         written = u .written;
         drawn = u .drawn;
         room = u .room;

@@ -41,7 +41,7 @@ module _ {M : Type 0} (F : Form M) (bytes : List ℕ) (place : ℕ) where
       let slots : take (i + 1) (F .slots) ≡ take i (F .slots) ++ (s ∷ []) = ap (λ (k : ℕ). take k (F .slots)) (add-one i) ∙ take-nth (F .slots) i s e in
       let more : take (i + 1) (set xs i x) ≡ take i xs ++ (x ∷ []) = take-more-set xs i x h in
       let told : codes (take (i + 1) (F .slots)) (take (i + 1) (set xs i x)) ≡ codes (take i (F .slots)) (take i xs) ++ (code (s .storage) x ∷ []) =
-        ap (λ (ss : List Slot). codes ss (take (i + 1) (set xs i x))) slots ∙ ap (codes (take i (F .slots) ++ (s ∷ []))) more ∙ codes-push (take i (F .slots)) (take i xs) s x (before .fits) in
+      ap (λ (ss : List Slot). codes ss (take (i + 1) (set xs i x))) slots ∙ ap (codes (take i (F .slots) ++ (s ∷ []))) more ∙ codes-push (take i (F .slots)) (take i xs) s x (before .fits) in
       record {
         fits = ap (λ (ss : List Slot). fit ss (take (i + 1) (set xs i x))) slots ∙ ap (fit (take i (F .slots) ++ (s ∷ []))) more ∙ fit-push (take i (F .slots)) (take i xs) s x (before .fits) (one .ranges);
         at = subst (λ (ns : List ℕ). Numbers-at bytes place ns q) (sym told) (numbers-more bytes place (codes (take i (F .slots)) (take i xs)) next (code (s .storage) x) q (before .at) (one .number));
@@ -85,8 +85,8 @@ module _ {M : Type 0} (F : Form M) (bytes : List ℕ) (place : ℕ) where
     label-refused f r =
         let Goal : LabelFault → Type 0 = λ g. No-label F place (length bytes) (drop place bytes) (sheet.Label (at-place g place)) in
         elim (read-err stands (in-range F xs) (F .means xs) f r) [
-          inl p ↦
-            let able : F .able ≡ false = elim (and-cases (F .able) (fit (F .slots) xs) (p .0)) [ inl a ↦ a | inr b ↦ absurd (both-ways (fit (F .slots) xs) b (out .fits)) ] in
-            subst Goal (sym (p .1)) (faults.unwritable xs (drop next bytes) (out .fits) able (out .at .bytes-are))
-        | inr p ↦ subst Goal (sym (p .2)) (faults.meaningless xs (drop next bytes) (p .0) (p .1) (out .at .bytes-are))
+          | inl p ↦
+              let able : F .able ≡ false = elim (and-cases (F .able) (fit (F .slots) xs) (p .0)) [ inl a ↦ a | inr b ↦ absurd (both-ways (fit (F .slots) xs) b (out .fits)) ] in
+              subst Goal (sym (p .1)) (faults.unwritable xs (drop next bytes) (out .fits) able (out .at .bytes-are))
+          | inr p ↦ subst Goal (sym (p .2)) (faults.meaningless xs (drop next bytes) (p .0) (p .1) (out .at .bytes-are))
         ]

@@ -64,10 +64,10 @@ module _ {M : Type 0} (F : Form M) where
   pub data No-label (place end : ℕ) (all : List ℕ) : SheetFault → Type 0 where
     -- after k numbers in their ranges, no number can be read
     unread : (k : ℕ) (xs : List ℤ) (rest : List ℕ) (f : Placed BytesFault) → k < length (F .slots) → fit (take k (F .slots)) xs ≡ true → all ≡ text (codes (take k (F .slots)) xs) ++ rest →
-      Unreadable (place + length (text (codes (take k (F .slots)) xs))) end rest f → No-label place end all (sheet.Bytes f)
+        Unreadable (place + length (text (codes (take k (F .slots)) xs))) end rest f → No-label place end all (sheet.Bytes f)
     -- after k numbers in their ranges comes one as which no number of its range is stored
     outside : (k n : ℕ) (s : Slot) (xs : List ℤ) (rest : List ℕ) → fit (take k (F .slots)) xs ≡ true → nth (F .slots) k ≡ Some s → Small n → ((x : ℤ) → inside s x ≡ true → code (s .storage) x ≢ n) →
-      all ≡ text (codes (take k (F .slots)) xs) ++ (stored n ++ rest) → No-label place end all (sheet.Label (at-place label.OutOfRange (place + length (text (codes (take k (F .slots)) xs)))))
+        all ≡ text (codes (take k (F .slots)) xs) ++ (stored n ++ rest) → No-label place end all (sheet.Label (at-place label.OutOfRange (place + length (text (codes (take k (F .slots)) xs)))))
     -- the kind has no written form
     unwritable : (xs : List ℤ) (rest : List ℕ) → fit (F .slots) xs ≡ true → F .able ≡ false → all ≡ text (codes (F .slots) xs) ++ rest → No-label place end all (sheet.Label (at-place label.OutOfRange place))
     -- the numbers are in their ranges, and stand for no label
@@ -107,8 +107,8 @@ module _ {M : Type 0} (F : Form M) where
     pub data Refused : List (Line M) → SheetFault → Type 0 where
       heading : (f : Placed BytesFault) → No-heading kind (length all) all f → Refused [] (sheet.Bytes f)
       line : (nodes count : ℕ) (ls : List (Line M)) (rest : List ℕ) (f : SheetFault) → Begins nodes count ls rest → length ls < count →
-        No-line (length (text (numbers-so-far F kind nodes count ls))) (length all) rest f → Refused ls f
+          No-line (length (text (numbers-so-far F kind nodes count ls))) (length all) rest f → Refused ls f
       rule : (nodes count : ℕ) (ls : List (Line M)) (l : Line M) (rest after : List ℕ) (e : NetRefusal) → Begins nodes count ls rest → length ls < count → A-line rest l after →
-        First (Line-breaks G (record { nodes = nodes; lines = ls }) room room l) e line-rules → Refused ls (sheet.Line (at-place e (length (text (numbers-so-far F kind nodes count ls)))))
+          First (Line-breaks G (record { nodes = nodes; lines = ls }) room room l) e line-rules → Refused ls (sheet.Line (at-place e (length (text (numbers-so-far F kind nodes count ls)))))
       left-over : (nodes count : ℕ) (ls : List (Line M)) (rest : List ℕ) → Begins nodes count ls rest → length ls ≡ count → rest ≢ [] →
-        Refused ls (sheet.Bytes (at-place bytes.LeftOver (length (text (numbers-so-far F kind nodes count ls)))))
+          Refused ls (sheet.Bytes (at-place bytes.LeftOver (length (text (numbers-so-far F kind nodes count ls)))))

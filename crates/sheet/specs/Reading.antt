@@ -114,7 +114,7 @@ module _ {L M : Type 0} (F : Form M) (stands : L → M) where
   pub data No-draw (G : Group M) (bytes : List ℕ) (place : ℕ) (d : Draft) (list : List (Line L)) : SheetFault → Type 0 where
     unread-line : (f : SheetFault) → No-line F place (length bytes) (drop place bytes) f → No-draw G bytes place d list f
     refused-line : (l : Line L) (next : ℕ) (e : NetRefusal) → Line-at bytes place l next → First (Line-breaks G (net-of stands d list) (d .room) (length list) (line-of stands l)) e line-rules →
-      No-draw G bytes place d list (sheet.Line (at-place e place))
+        No-draw G bytes place d list (sheet.Line (at-place e place))
 
   abbrev pub DrawClause : Group M → List ℕ → ℕ → Draft → List (Line L) → Result ℕ SheetFault → Draft → List (Line L) → Type 0
   DrawClause G bytes place d list (Ok next) d′ list′ = Drew G bytes place d list next d′ list′

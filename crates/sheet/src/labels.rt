@@ -47,16 +47,26 @@ fn slot_number_at(bytes: &[u8], place: usize, slot: Slot) -> Result<ReadInteger,
     let number = number_at(bytes, place)?;
     let value = decoded(slot.storage, number.value);
     if value < slot.least || slot.most < value {
-        return Err(SheetFault::Label(Placed { fault: LabelFault::OutOfRange, place }));
+        return Err(SheetFault::Label(Placed {
+            fault: LabelFault::OutOfRange,
+            place,
+        }));
     }
-    Ok(ReadInteger { value, next: number.next })
+    Ok(ReadInteger {
+        value,
+        next: number.next,
+    })
 }
 
 // The most numbers that a written label has.
 const MOST_NUMBERS: usize = 4095;
 
 // The label's number with that index, at the place.
-fn label_number_at<L: Label>(bytes: &[u8], place: usize, index: usize) -> Result<ReadInteger, SheetFault>
+fn label_number_at<L: Label>(
+    bytes: &[u8],
+    place: usize,
+    index: usize,
+) -> Result<ReadInteger, SheetFault>
     requires { ⌜ place ≤ length (now bytes) ⌝ ∗ ⌜ index < length (L·Label .form .slots) ⌝ }
     ensures { λ r. ⌜ ((s : Slot) → nth (L·Label .form .slots) index ≡ Some s → SlotClause (now (bytes .entry)) place s r) ⌝ }
 {

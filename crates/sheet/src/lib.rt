@@ -1,10 +1,10 @@
 // Sheets: nets as bytes.
 mod faults;
-mod kinds;
-mod numbers;
 mod headings;
+mod kinds;
 mod labels;
 mod lines;
+mod numbers;
 mod reading;
 
 pub use faults::BytesFault;

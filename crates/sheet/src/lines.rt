@@ -21,13 +21,22 @@ fn line_at<L: Label>(bytes: &[u8], place: usize) -> Result<ReadLine<L>, SheetFau
     let head = number_at(bytes, tail.next)?;
     let label = label_at::<L>(bytes, head.next)?;
     Ok(ReadLine {
-        line: Line { tail: tail.value, head: head.value, label: label.label },
+        line: Line {
+            tail: tail.value,
+            head: head.value,
+            label: label.label,
+        },
         next: label.next,
     })
 }
 
 // Reads the line at the place and draws it; answers the place after it.
-pub(crate) fn draw_line_at<L: Label>(bytes: &[u8], place: usize, draft: &mut Draft, list: &mut [Line<L>]) -> Result<usize, SheetFault>
+pub(crate) fn draw_line_at<L: Label>(
+    bytes: &[u8],
+    place: usize,
+    draft: &mut Draft,
+    list: &mut [Line<L>],
+) -> Result<usize, SheetFault>
     requires { ⌜ place ≤ length (now bytes) ⌝ }
     ensures { λ r. ⌜ DrawClause (L·Label .form) (L·Label .stands) (L·Label .group) (now (bytes .entry)) place (now (draft .entry)) (now (list .entry)) r (now (draft .exit)) (now (list .exit)) ⌝ }
 {

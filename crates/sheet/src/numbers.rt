@@ -49,14 +49,23 @@ pub(crate) fn number_at(bytes: &[u8], place: usize) -> Result<ReadNumber, Placed
     ensures { λ r. ⌜ NumberClause (now (bytes .entry)) place r ⌝ }
 {
     let end = bytes.len();
-    let ends = Placed { fault: BytesFault::Ends, place: end };
-    let malformed = Placed { fault: BytesFault::Malformed, place };
+    let ends = Placed {
+        fault: BytesFault::Ends,
+        place: end,
+    };
+    let malformed = Placed {
+        fault: BytesFault::Malformed,
+        place,
+    };
     if end - place < 1 {
         return Err(ends);
     }
     let first = bytes[place] as u32;
     if first < 128 {
-        return Ok(ReadNumber { value: first, next: place + 1 });
+        return Ok(ReadNumber {
+            value: first,
+            next: place + 1,
+        });
     }
     if end - place < 2 {
         return Err(ends);
@@ -66,7 +75,10 @@ pub(crate) fn number_at(bytes: &[u8], place: usize) -> Result<ReadNumber, Placed
         return Err(malformed);
     }
     if second < 128 {
-        return Ok(ReadNumber { value: first - 128 + 128 * second, next: place + 2 });
+        return Ok(ReadNumber {
+            value: first - 128 + 128 * second,
+            next: place + 2,
+        });
     }
     if end - place < 3 {
         return Err(ends);
@@ -75,5 +87,8 @@ pub(crate) fn number_at(bytes: &[u8], place: usize) -> Result<ReadNumber, Placed
     if third == 0 || third >= 128 {
         return Err(malformed);
     }
-    Ok(ReadNumber { value: first - 128 + 128 * (second - 128 + 128 * third), next: place + 3 })
+    Ok(ReadNumber {
+        value: first - 128 + 128 * (second - 128 + 128 * third),
+        next: place + 3,
+    })
 }

@@ -15,13 +15,20 @@ use net::Line;
 pub fn read<K: SheetKind>(bytes: &[u8], list: &mut [Line<K>]) -> Result<Draft, SheetFault>
     ensures { λ r. ⌜ ReadSheet (K·Label .group) (K·Label .form) (K·Label .stands) (K·SheetKind .kind) (now (bytes .entry)) (now (list .entry)) r (now (list .exit)) ⌝ }
 {
-    let Heading { mut draft, lines, next } = heading(bytes, list)?;
+    let Heading {
+        mut draft,
+        lines,
+        next,
+    } = heading(bytes, list)?;
     let mut place = next;
     for _i in 0..lines {
         place = draw_line_at(bytes, place, &mut draft, list)?;
     }
     if place < bytes.len() {
-        return Err(SheetFault::Bytes(Placed { fault: BytesFault::LeftOver, place }));
+        return Err(SheetFault::Bytes(Placed {
+            fault: BytesFault::LeftOver,
+            place,
+        }));
     }
     Ok(draft)
 }

@@ -46,10 +46,11 @@ loop-i-again g c =
     let held : i < length xs = omega (arith, c .loop-i .inv .0) in
     let s = nth-some (F .slots) i inside in
     let n = c .in-Continue-number .number in
-    let f : SFits w32 (n .value) = search needs in
-    (length-set xs i (toZ w32 (ofZ w32 (n .value))) ∙ c .loop-i .inv .0,
-     subst (λ (x : ℤ). Spelled F (c .args .bytes .now) (c .args .place) (i + 1) (set xs i x) (n .next)) (sym (toZ-ofZ w32 (n .value) f))
-     (spelled-more F (c .args .bytes .now) (c .args .place) i xs (c .loop-i .next) (s .0) (n .value) (n .next) held (s .1) (c .loop-i .inv .1) (c .in-Continue-number .ensures tt (s .0) (s .1))))
+    let f : SFits w32 (n .value) = search needs in (
+      length-set xs i (toZ w32 (ofZ w32 (n .value))) ∙ c .loop-i .inv .0,
+      subst (λ (x : ℤ). Spelled F (c .args .bytes .now) (c .args .place) (i + 1) (set xs i x) (n .next)) (sym (toZ-ofZ w32 (n .value) f))
+          (spelled-more F (c .args .bytes .now) (c .args .place) i xs (c .loop-i .next) (s .0) (n .value) (n .next) held (s .1) (c .loop-i .inv .1) (c .in-Continue-number .ensures tt (s .0) (s .1))),
+    )
 
 pub returns-in-Break-label : need.returns-in-Break-label
 returns-in-Break-label g c =

@@ -20,9 +20,9 @@ returns-then-value-slot c =
     let y = c .decoded-value .result in
     let n = c .in-Continue-number .number in
     let out : (y <ℤ s .least) ⊎ (s .most <ℤ y) = elim (c .then-value-slot .came) [
-        then-value-slot·by·then-value-slot w ↦ inl (omega (arith, ints, w .if-value-slot .taken))
+      | then-value-slot·by·then-value-slot w ↦ inl (omega (arith, ints, w .if-value-slot .taken))
       | then-value-slot·by·else-value-slot·then-slot-value w ↦ inr (omega (arith, ints, w .if-slot-value .taken))
-      ] in
+    ] in
     outside (record {
       value = n .value;
       next = n .next;

@@ -26,7 +26,7 @@ returns-in-Break-head g c =
     let at = numbers-one bs (c .args .place) (t .value) (t .next) (c .pre) (c .in-Continue-tail .ensures tt) in
     let p = err-from-errBy (c .from-residual-in-Break-head .result) (c .from-residual-in-Break-head .ensures .1) in
     rw (p .1, p .2) (no-head (t .value) (drop (t .next) bs) _ (c .in-Continue-tail .ensures tt .small) (at .bytes-are)
-      (subst (λ (q : ℕ). Unreadable q (length bs) (drop (t .next) bs) (c .in-Break-head .field-0 .0)) (at .next-is) (c .in-Break-head .ensures tt)))
+    (subst (λ (q : ℕ). Unreadable q (length bs) (drop (t .next) bs) (c .in-Break-head .field-0 .0)) (at .next-is) (c .in-Break-head .ensures tt)))
 
 pub returns-in-Break-label : need.returns-in-Break-label
 returns-in-Break-label g c =
@@ -37,7 +37,7 @@ returns-in-Break-label g c =
     let at2 = numbers-more bs (c .args .place) (t .value ∷ []) (t .next) (h .value) (h .next) at (c .in-Continue-head .ensures tt) in
     let p = err-from-errBy (c .from-residual-in-Break-label .result) (c .from-residual-in-Break-label .ensures .1) in
     rw (p .1, p .2) (no-label (t .value) (h .value) (drop (h .next) bs) _ (c .in-Continue-tail .ensures tt .small) (c .in-Continue-head .ensures tt .small) (at2 .bytes-are)
-      (subst (λ (q : ℕ). No-label (g .L·Label .form) q (length bs) (drop (h .next) bs) (c .in-Break-label .field-0 .0)) (at2 .next-is) (c .in-Break-label .ensures tt)))
+    (subst (λ (q : ℕ). No-label (g .L·Label .form) q (length bs) (drop (h .next) bs) (c .in-Break-label .field-0 .0)) (at2 .next-is) (c .in-Break-label .ensures tt)))
 
 pub returns : need.returns
 returns g c =

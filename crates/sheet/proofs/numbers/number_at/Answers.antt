@@ -64,8 +64,8 @@ returns-then-third-eq0 c =
     let p = c .args .place in
     let three = rest-three bs p (omega arith) in
     malformed (elim (c .then-third-eq0 .either) [
-      inl z ↦ subst Malformed (sym (three ∙ ap (λ (x : ℕ). getD bs p 0 ∷ getD bs (p + 1) 0 ∷ x ∷ drop (p + 3) bs) z)) (zero-third (omega arith) (omega arith))
-    | inr m ↦ subst Malformed (sym three) (endless (omega arith) (omega arith) (m .1))
+      | inl z ↦ subst Malformed (sym (three ∙ ap (λ (x : ℕ). getD bs p 0 ∷ getD bs (p + 1) 0 ∷ x ∷ drop (p + 3) bs) z)) (zero-third (omega arith) (omega arith))
+      | inr m ↦ subst Malformed (sym three) (endless (omega arith) (omega arith) (m .1))
     ])
 
 pub returns : need.returns

@@ -30,7 +30,7 @@ returns-in-Break-place g c =
     let kind = g .K·SheetKind .kind in
     let bs = c .args .bytes .now in
     rw (p .1, p .2, told .2)
-      (underway-refused G F (g .K·Label .stands) kind bs (c .args .list .now) (c .in-Continue-draft .field-0 .lines) (c .loop-i .draft) (c .loop-i .list) (c .loop-i .-i) (c .loop-i .place) (c .loop-i .inv) (c .loop-i-test .taken) (told .0))
+    (underway-refused G F (g .K·Label .stands) kind bs (c .args .list .now) (c .in-Continue-draft .field-0 .lines) (c .loop-i .draft) (c .loop-i .list) (c .loop-i .-i) (c .loop-i .place) (c .loop-i .inv) (c .loop-i-test .taken) (told .0))
 
 pub loop-i-again : need.loop-i-again
 loop-i-again g c =

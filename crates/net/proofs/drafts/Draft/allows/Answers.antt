@@ -31,5 +31,5 @@ returns g c =
     record {
       room = made-always (c .has-ports .result) (c .in-Continue-has-place .ensures tt .room);
       verdict = settled-right B place-rules (loop-rules ++ port-rules) (λ _. Unit {0}) (Unit {0}) (c .has-ports .result) (c .in-Continue-has-place .ensures tt .verdict .0)
-        (settled-right B loop-rules port-rules (λ _. Unit {0}) (Unit {0}) (c .has-ports .result) (c .in-Continue-loop-allowed .ensures tt net (d .room) (length list) .0) (c .has-ports .ensures));
+          (settled-right B loop-rules port-rules (λ _. Unit {0}) (Unit {0}) (c .has-ports .result) (c .in-Continue-loop-allowed .ensures tt net (d .room) (length list) .0) (c .has-ports .ensures));
     }

@@ -15,19 +15,31 @@ returns-then-list-self g c = record { room = tt; verdict = (here (c .if-list-sel
 
 pub returns-then-line-self : need.returns-then-line-self
 returns-then-line-self g c =
-    record { room = tt; verdict = (later (λ ne. ne (c .if-list-self .left)) (here (elim (c .then-line-self .came) [
-       then-line-self·by·then-line-self w ↦ inl (w .if-line-self .taken)
-     | then-line-self·by·else-line-self·then-line-self-2 w ↦ inr (w .if-line-self-2 .taken)
-     ])), tt) }
+    record {
+      room = tt;
+      verdict = (
+        later (λ ne. ne (c .if-list-self .left)) (here (elim (c .then-line-self .came) [
+          | then-line-self·by·then-line-self w ↦ inl (w .if-line-self .taken)
+          | then-line-self·by·else-line-self·then-line-self-2 w ↦ inr (w .if-line-self-2 .taken)
+        ])),
+        tt,
+      );
+    }
 
 pub returns-then-self : need.returns-then-self
 returns-then-self g c =
     let d = c .args .self .now in
     let many = lines-count (g .L·Label .stands) (c .args .list .now) (d .lines) (omega arith) in
-    record { room = tt; verdict = (later (λ ne. ne (c .if-list-self .left)) (later (λ off. elim off [ inl t ↦ omega arith | inr h ↦ omega arith ]) (here (elim (c .then-self .came) [
-       then-self·by·then-self w ↦ inl (omega (arith, w .if-self .taken))
-     | then-self·by·else-self·then-self-ge-MOST-LINES w ↦ inr (omega (arith, w .if-self-ge-MOST-LINES .taken))
-     ]))), tt) }
+    record {
+      room = tt;
+      verdict = (
+        later (λ ne. ne (c .if-list-self .left)) (later (λ off. elim off [ inl t ↦ omega arith | inr h ↦ omega arith ]) (here (elim (c .then-self .came) [
+          | then-self·by·then-self w ↦ inl (omega (arith, w .if-self .taken))
+          | then-self·by·else-self·then-self-ge-MOST-LINES w ↦ inr (omega (arith, w .if-self-ge-MOST-LINES .taken))
+        ]))),
+        tt,
+      );
+    }
 
 pub returns : need.returns
 returns g c =
