@@ -6,3 +6,14 @@ mod Slots
 mod Readings
 mod Spelled
 mod Progress
+mod Decoding
+mod Readers
+mod NumberReader
+mod SlotReader
+mod LabelReader
+mod LineReader
+mod HeadingReader
+mod Drawable
+mod DrawingReader
+mod SheetReader
+mod RoundTrips

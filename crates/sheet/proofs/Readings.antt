@@ -9,13 +9,11 @@ use Rattle.std.specs.declared.option.Option.the-variants.{Some, None}
 use Rattle.std.specs.declared.result.Result.{Result}
 use Rattle.std.specs.declared.result.Result.the-variants.{Ok, Err}
 use Rattle.label.specs.Clauses.{Read-as}
+use Rattle.sheet.proofs.Readers.{ok-err}
 use Rattle.sheet.specs.Faults.{at-place, placed-at}
 use Rattle.sheet.specs.declared.faults.Placed.{Placed}
 use Rattle.label.specs.declared.refusals.LabelFault.{LabelFault}
 use Rattle.label.specs.declared.refusals.LabelFault.the-variants.{OutOfRange, NoPermutation}
-
-ok-err : {X Y : Type 0} (x : X) (y : Y) → _≡_ {A = Result X Y} (Ok x) (Err y) → ⊥
-ok-err x y e = let z : _≡_ {A = ℕ} 0 1 = cc in omega arith
 
 module _ {L M : Type 0} (stands : L → M) where
   pub read-ok : (b : Bool) (o : Option M) (l : L) → Read-as stands b o (Ok l) → (b ≡ true) × (o ≡ Some (stands l))

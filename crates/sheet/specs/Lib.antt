@@ -5,3 +5,4 @@ pub mod Faults
 pub mod Numbers
 pub mod Clauses
 pub mod Reading
+pub mod RoundTrip

@@ -6,6 +6,7 @@ mod labels;
 mod lines;
 mod numbers;
 mod reading;
+mod theorems;
 
 pub use faults::BytesFault;
 pub use faults::Placed;
@@ -17,3 +18,4 @@ pub use kinds::ScrewSheet;
 pub use kinds::SheetKind;
 pub use kinds::TranslationSheet;
 pub use reading::read;
+pub use theorems::sheets_round_trip;
