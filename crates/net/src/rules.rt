@@ -1,5 +1,7 @@
 ghost use mathlib.Core.Path.{_≡_};
-ghost use Prim.Native.Nat.{ℕ, _<_};
+ghost use mathlib.Core.Logic.{_⊎_};
+ghost use Prim.Native.Nat.{ℕ, _<_, _≤_};
+ghost use Rattle.std.specs.Orderings.{When};
 ghost use lib.ListN.{length};
 ghost use Rattle.std.specs.Vec.{made};
 ghost use Rattle.mesh.specs.Net.{Net};
@@ -19,6 +21,20 @@ use label::Label;
 const MOST_LINES: usize = 96;
 
 const MOST_PORTS: usize = 12;
+
+// Whether a list with so many records has none for one more line.
+fn full(lines: usize, room: usize) -> bool
+    ensures { λ r. ⌜ When r ((room ≤ lines) ⊎ (96 ≤ lines)) ((lines < room) × (lines < 96)) ⌝ }
+{
+    lines >= room || lines >= MOST_LINES
+}
+
+// Whether a node may not have so many ports.
+fn too_many(ports: usize) -> bool
+    ensures { λ r. ⌜ When r (12 < ports) (ports ≤ 12) ⌝ }
+{
+    ports > MOST_PORTS
+}
 
 // Whether the label may stand on a line, where the line is a loop.
 fn loop_allowed<L: Label>(line: Line<L>) -> Result<(), NetRefusal>
@@ -47,7 +63,7 @@ impl Draft {
         if line.tail >= self.nodes || line.head >= self.nodes {
             return Err(NetRefusal::NoSuchNode);
         }
-        if self.lines >= self.room || self.lines >= MOST_LINES {
+        if full(self.lines, self.room) {
             return Err(NetRefusal::ListFull);
         }
         Ok(())
@@ -63,7 +79,7 @@ impl Draft {
         }
         let at_tail = port_count(list, self.lines, line.tail) + ports_given(line, line.tail);
         let at_head = port_count(list, self.lines, line.head) + ports_given(line, line.head);
-        if at_tail > MOST_PORTS || at_head > MOST_PORTS {
+        if too_many(at_tail) || too_many(at_head) {
             return Err(NetRefusal::PortsFull);
         }
         Ok(())

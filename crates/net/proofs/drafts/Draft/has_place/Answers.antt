@@ -8,7 +8,6 @@ use Rattle.net.specs.Model.{lines-of}
 use Rattle.net.proofs.Steps.{lines-count}
 use Rattle.net.proofs.drafts.Draft.has_place.Needs as need
 use Rattle.net.proofs.drafts.Draft.has_place.Needs.{then-line-self·by·then-line-self, then-line-self·by·else-line-self·then-line-self-2}
-use Rattle.net.proofs.drafts.Draft.has_place.Needs.{then-self·by·then-self, then-self·by·else-self·then-self-ge-MOST-LINES}
 
 pub returns-then-list-self : need.returns-then-list-self
 returns-then-list-self g c = record { room = tt; verdict = (here (c .if-list-self .taken), tt) }
@@ -26,23 +25,18 @@ returns-then-line-self g c =
       );
     }
 
-pub returns-then-self : need.returns-then-self
-returns-then-self g c =
+pub returns-then-full : need.returns-then-full
+returns-then-full g c =
     let d = c .args .self .now in
     let many = lines-count (g .L·Label .stands) (c .args .list .now) (d .lines) (omega arith) in
     record {
       room = tt;
-      verdict = (
-        later (λ ne. ne (c .if-list-self .left)) (later (λ off. elim off [ inl t ↦ omega arith | inr h ↦ omega arith ]) (here (elim (c .then-self .came) [
-          | then-self·by·then-self w ↦ inl (omega (arith, w .if-self .taken))
-          | then-self·by·else-self·then-self-ge-MOST-LINES w ↦ inr (omega (arith, w .if-self-ge-MOST-LINES .taken))
-        ]))),
-        tt,
-      );
+      verdict = (later (λ ne. ne (c .if-list-self .left)) (later (λ off. elim off [ inl t ↦ omega arith | inr h ↦ omega arith ]) (here (elim (c .if-full .ensures tt) [ inl t ↦ inl (omega arith) | inr h ↦ inr (omega arith) ]))), tt);
     }
 
 pub returns : need.returns
 returns g c =
     let d = c .args .self .now in
     let many = lines-count (g .L·Label .stands) (c .args .list .now) (d .lines) (omega arith) in
+    let free = c .if-full .ensures tt in
     record { room = omega arith; verdict = ((λ ne. ne (c .if-list-self .left), (λ off. elim off [ inl t ↦ omega arith | inr h ↦ omega arith ], (λ full. elim full [ inl t ↦ omega arith | inr h ↦ omega arith ], tt))), tt) }
