@@ -2,6 +2,7 @@ mod Groups
 mod Rests
 mod Places
 mod Coded
+mod Options
 mod Slots
 mod Readings
 mod Spelled
@@ -17,3 +18,10 @@ mod Drawable
 mod DrawingReader
 mod SheetReader
 mod RoundTrips
+mod Sizes
+mod Fronts
+mod Tellings
+mod Flat
+mod Records
+mod Indices
+mod Texts

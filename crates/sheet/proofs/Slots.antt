@@ -12,15 +12,10 @@ use Rattle.std.specs.shelf.Maps.{nth}
 use Rattle.std.proofs.shelf.Tests.{and-parts, and-from, false≢true}
 use Rattle.std.specs.declared.option.Option.{Option}
 use Rattle.std.specs.declared.option.Option.the-variants.{Some, None}
+use Rattle.sheet.proofs.Options.{none-some, some-same}
 use Rattle.label.specs.Form.{inside, fit, storable, least-stored, most-stored}
 use Rattle.label.specs.declared.written.Slot.{Slot}
 use Rattle.sheet.specs.Codes.{code, codes}
-
-none-some : {X : Type 0} {x : X} → None ≡ Some x → ⊥
-none-some e = let z : _≡_ {A = ℕ} 0 1 = cc in omega arith
-
-some-same : {X : Type 0} {x y : X} → Some x ≡ Some y → x ≡ y
-some-same e = cc
 
 pub nth-some : {X : Type 0} (xs : List X) (i : ℕ) → i < length xs → (x : X) × (nth xs i ≡ Some x)
 nth-some [] i h = absurd (let z : ⊥ = omega arith in z)

@@ -6,3 +6,4 @@ pub mod Numbers
 pub mod Clauses
 pub mod Reading
 pub mod RoundTrip
+pub mod Writing

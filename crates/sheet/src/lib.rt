@@ -3,10 +3,12 @@ mod faults;
 mod headings;
 mod kinds;
 mod labels;
+mod lengths;
 mod lines;
 mod numbers;
 mod reading;
 mod theorems;
+mod writing;
 
 pub use faults::BytesFault;
 pub use faults::Placed;
@@ -19,3 +21,4 @@ pub use kinds::SheetKind;
 pub use kinds::TranslationSheet;
 pub use reading::read;
 pub use theorems::sheets_round_trip;
+pub use writing::write;
