@@ -1,9 +1,9 @@
 // The companion program: shows what a sheet holds.
-mod show;
+mod choice;
 
+use choice::show_any;
+use report::Shown;
 use report::hex_bytes;
-use show::Shown;
-use show::show;
 use std::env;
 use std::error::AnyError;
 use std::fs;
@@ -18,7 +18,7 @@ const USAGE: &str = "usage: likhroun [show FILE | show-hex FILE]
 
 // Prints what there is to say of the sheet; a refusal ends the program with an error.
 fn print_sheet(rt: &LibcRuntime, bytes: &[u8]) -> Result<(), AnyError> {
-    match show(rt.alloc(), bytes)? {
+    match show_any(rt.alloc(), bytes)? {
         Shown::Net(text) => {
             rt.println(text.as_str())?;
             Ok(())

@@ -3,6 +3,8 @@ mod faults;
 mod hex;
 mod labels;
 mod lines;
+mod saying;
+mod shown;
 #[cfg(test)]
 mod tests;
 
@@ -20,3 +22,5 @@ pub use lines::line_text;
 pub use lines::nodes_text;
 pub use lines::ports_text;
 pub use lines::sheet_text;
+pub use saying::show;
+pub use shown::Shown;

@@ -17,7 +17,7 @@ mod HeadingReader
 mod Drawable
 mod DrawingReader
 mod SheetReader
-mod RoundTrips
+pub mod RoundTrips
 mod Sizes
 mod Fronts
 mod Tellings
