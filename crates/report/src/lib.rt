@@ -5,8 +5,6 @@ mod labels;
 mod lines;
 mod saying;
 mod shown;
-#[cfg(test)]
-mod tests;
 
 pub use faults::fault_text;
 pub use faults::words;

@@ -33,6 +33,13 @@ module _ (bytes : List ℕ) (kind : ℕ) where
   kind-at : (n q : ℕ) → n ≡ kind → Number-at bytes 0 n q → Numbers-at bytes 0 (kind ∷ []) q
   kind-at n q e one = subst (λ (k : ℕ). Numbers-at bytes 0 (k ∷ []) q) e (numbers-one bytes 0 n q (omega arith) one)
 
+  -- the kind and the nodes at the front, and then the number of lines
+  nodes-at : (k q n r : ℕ) → k ≡ kind → Number-at bytes 0 k q → Number-at bytes q n r → Numbers-at bytes 0 (kind ∷ n ∷ []) r
+  nodes-at k q n r e one two = numbers-more bytes 0 (kind ∷ []) q n r (kind-at k q e one) two
+
+  count-at : (k q n r m s : ℕ) → k ≡ kind → Number-at bytes 0 k q → Number-at bytes q n r → Number-at bytes r m s → Numbers-at bytes 0 (kind ∷ n ∷ m ∷ []) s
+  count-at k q n r m s e one two three = numbers-more bytes 0 (kind ∷ n ∷ []) r m s (nodes-at k q n r e one two) three
+
 pub returns-in-Break-kind : need.returns-in-Break-kind
 returns-in-Break-kind g c =
     let p = err-from-errBy (c .from-residual .result) (c .from-residual .ensures .1) in
@@ -59,8 +66,7 @@ returns-in-Break-lines g c =
     let kind = g .K·SheetKind .kind in
     let k = c .in-Continue-kind .kind in
     let n = c .in-Continue-nodes .nodes in
-    let at = kind-at bs kind (k .value) (k .next) (c .if-kind .left ∙ c .kind .ensures) (c .in-Continue-kind .ensures tt) in
-    let at2 = numbers-more bs 0 (kind ∷ []) (k .next) (n .value) (n .next) at (c .in-Continue-nodes .ensures tt) in
+    let at2 = nodes-at bs kind (k .value) (k .next) (n .value) (n .next) (c .if-kind .left ∙ c .kind .ensures) (c .in-Continue-kind .ensures tt) (c .in-Continue-nodes .ensures tt) in
     let p = err-from-errBy (c .from-residual-in-Break-lines .result) (c .from-residual-in-Break-lines .ensures .1) in
     rw (p .1, p .2) (no-count (n .value) (drop (n .next) bs) _ (c .in-Ok .ensures tt .0 .0) (at2 .bytes-are) (moved bs kind (kind ∷ n .value ∷ []) (n .next) _ at2 (c .in-Break-lines .ensures tt)))
 
@@ -71,9 +77,8 @@ returns-then-lines-gt-MOST-LINES g c =
     let k = c .in-Continue-kind .kind in
     let n = c .in-Continue-nodes .nodes in
     let m = c .in-Continue-lines .lines in
-    let at = kind-at bs kind (k .value) (k .next) (c .if-kind .left ∙ c .kind .ensures) (c .in-Continue-kind .ensures tt) in
-    let at2 = numbers-more bs 0 (kind ∷ []) (k .next) (n .value) (n .next) at (c .in-Continue-nodes .ensures tt) in
-    let at3 = numbers-more bs 0 (kind ∷ n .value ∷ []) (n .next) (m .value) (m .next) at2 (c .in-Continue-lines .ensures tt) in
+    let at2 = nodes-at bs kind (k .value) (k .next) (n .value) (n .next) (c .if-kind .left ∙ c .kind .ensures) (c .in-Continue-kind .ensures tt) (c .in-Continue-nodes .ensures tt) in
+    let at3 = count-at bs kind (k .value) (k .next) (n .value) (n .next) (m .value) (m .next) (c .if-kind .left ∙ c .kind .ensures) (c .in-Continue-kind .ensures tt) (c .in-Continue-nodes .ensures tt) (c .in-Continue-lines .ensures tt) in
     placed bs kind (kind ∷ n .value ∷ []) (n .next) _ at2 (count-out (n .value) (m .value) (drop (m .next) bs) (c .in-Ok .ensures tt .0 .0) (c .in-Continue-lines .ensures tt .small) (at3 .bytes-are) (c .if-lines-gt-MOST-LINES .taken))
 
 pub returns-in-Err : need.returns-in-Err
@@ -83,7 +88,7 @@ returns-in-Err g c =
     let k = c .in-Continue-kind .kind in
     let n = c .in-Continue-nodes .nodes in
     let at = kind-at bs kind (k .value) (k .next) (c .if-kind .left ∙ c .kind .ensures) (c .in-Continue-kind .ensures tt) in
-    let at2 = numbers-more bs 0 (kind ∷ []) (k .next) (n .value) (n .next) at (c .in-Continue-nodes .ensures tt) in
+    let at2 = nodes-at bs kind (k .value) (k .next) (n .value) (n .next) (c .if-kind .left ∙ c .kind .ensures) (c .in-Continue-kind .ensures tt) (c .in-Continue-nodes .ensures tt) in
     placed bs kind (kind ∷ []) (k .next) _ at (nodes-out (n .value) (drop (n .next) bs) (c .in-Continue-nodes .ensures tt .small) (at2 .bytes-are) (open-broken (c .in-Err .ensures tt .0)))
 
 pub returns-else-lines-gt-MOST-LINES : need.returns-else-lines-gt-MOST-LINES
@@ -94,9 +99,7 @@ returns-else-lines-gt-MOST-LINES g c =
     let n = c .in-Continue-nodes .nodes in
     let m = c .in-Continue-lines .lines in
     let opened = c .in-Ok .ensures tt .1 in
-    let at = kind-at bs kind (k .value) (k .next) (c .if-kind .left ∙ c .kind .ensures) (c .in-Continue-kind .ensures tt) in
-    let at2 = numbers-more bs 0 (kind ∷ []) (k .next) (n .value) (n .next) at (c .in-Continue-nodes .ensures tt) in
-    let at3 = numbers-more bs 0 (kind ∷ n .value ∷ []) (n .next) (m .value) (m .next) at2 (c .in-Continue-lines .ensures tt) in
+    let at3 = count-at bs kind (k .value) (k .next) (n .value) (n .next) (m .value) (m .next) (c .if-kind .left ∙ c .kind .ensures) (c .in-Continue-kind .ensures tt) (c .in-Continue-nodes .ensures tt) (c .in-Continue-lines .ensures tt) in
     record {
       nodes-in = λ out. elim out [ inl a ↦ omega (arith, c .in-Ok .draft .«some_nodes») | inr b ↦ omega (arith, c .in-Ok .draft .«few_nodes») ];
       count-in = λ out. omega (arith, c .if-lines-gt-MOST-LINES .left);
