@@ -1,4 +1,7 @@
-ghost use Prim.Native.Nat.{_≤_};
+ghost use mathlib.Core.Logic.{_⊎_};
+ghost use mathlib.Core.Path.{_≡_};
+ghost use Prim.Native.Nat.{_≤_, _<_};
+ghost use Rattle.std.specs.Orderings.{When};
 ghost use lib.ListN.{length};
 ghost use Rattle.sheet.specs.Reading.{NumberClause};
 use crate::faults::BytesFault;
@@ -43,6 +46,13 @@ pub(crate) struct Heading {
     pub next: usize,
 }
 
+// Whether the byte cannot be the last of three.
+fn no_last(byte: u32) -> bool
+    ensures { λ r. ⌜ When r ((byte ≡ 0) ⊎ (128 ≤ byte)) ((1 ≤ byte) × (byte < 128)) ⌝ }
+{
+    byte == 0 || byte >= 128
+}
+
 // The number at a place of the sheet, in its shortest form.
 pub(crate) fn number_at(bytes: &[u8], place: usize) -> Result<ReadNumber, Placed<BytesFault>>
     requires { ⌜ place ≤ length (now bytes) ⌝ }
@@ -84,7 +94,7 @@ pub(crate) fn number_at(bytes: &[u8], place: usize) -> Result<ReadNumber, Placed
         return Err(ends);
     }
     let third = bytes[place + 2] as u32;
-    if third == 0 || third >= 128 {
+    if no_last(third) {
         return Err(malformed);
     }
     Ok(ReadNumber {

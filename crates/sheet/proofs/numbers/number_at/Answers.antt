@@ -58,14 +58,14 @@ returns-then-end-place-lt3 c =
     let p = c .args .place in
     ends (subst Cut (sym (rest-two bs p (omega arith) ∙ ap (λ (q : List ℕ). getD bs p 0 ∷ getD bs (p + 1) 0 ∷ q) (rest-none bs (p + 2) (omega arith)))) (after-two (omega arith) (omega arith)))
 
-pub returns-then-third-eq0 : need.returns-then-third-eq0
-returns-then-third-eq0 c =
+pub returns-then-no-last : need.returns-then-no-last
+returns-then-no-last c =
     let bs = c .args .bytes .now in
     let p = c .args .place in
     let three = rest-three bs p (omega arith) in
-    malformed (elim (c .then-third-eq0 .either) [
+    malformed (elim (c .if-no-last .ensures tt) [
       | inl z ↦ subst Malformed (sym (three ∙ ap (λ (x : ℕ). getD bs p 0 ∷ getD bs (p + 1) 0 ∷ x ∷ drop (p + 3) bs) z)) (zero-third (omega arith) (omega arith))
-      | inr m ↦ subst Malformed (sym three) (endless (omega arith) (omega arith) (m .1))
+      | inr m ↦ subst Malformed (sym three) (endless (omega arith) (omega arith) m)
     ])
 
 pub returns : need.returns
@@ -75,6 +75,7 @@ returns c =
     let a = getD bs p 0 in
     let b = getD bs (p + 1) 0 in
     let d = getD bs (p + 2) 0 in
+    let last = c .if-no-last .ensures tt in
     let fa : a < 256 = c .typed .bytes p .fits in
     let fb : b < 256 = c .typed .bytes (p + 1) .fits in
     made bs (a ∷ b ∷ d ∷ []) p (a - 128 + 128 * (b - 128 + 128 * d)) (p + 3) (omega arith) (bytes-three a b d (omega arith) fa (omega arith) fb (omega arith) (omega arith)) (rest-three bs p (omega arith)) (omega arith) (omega arith)
