@@ -3,3 +3,4 @@ pub mod Groups
 pub mod Screws
 pub mod Semidirect
 pub mod Triples
+pub mod Translations

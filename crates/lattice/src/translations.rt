@@ -1,6 +1,4 @@
-ghost use Rattle.label.specs.Group.{pair-group};
-ghost use Rattle.label.specs.Order.{pair-order};
-ghost use Rattle.lattice.specs.Coord.{coords, coord-order};
+ghost use Rattle.lattice.specs.Translations.{translations, translation-order};
 ghost use Rattle.lattice.specs.Triples.{Triple, triple, triple-form, triple-made};
 use crate::coordinates::compared;
 use crate::coordinates::minus;
@@ -28,9 +26,9 @@ pub impl Label for Translation as TranslationLabel {
 
     ghost Meaning = { Triple };
 
-    ghost group = { pair-group coords (pair-group coords coords) };
+    ghost group = { translations };
 
-    ghost order = { pair-order coord-order (pair-order coord-order coord-order) };
+    ghost order = { translation-order };
 
     ghost form = { triple-form triple-made };
 

@@ -1,2 +1,11 @@
+pub mod Groups
 pub mod Lists
 pub mod Ported
+pub mod Walks
+pub mod Counts
+pub mod Carries
+pub mod Targets
+pub mod Drawings
+pub mod Shells
+pub mod Finite
+pub mod Balls

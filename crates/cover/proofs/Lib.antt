@@ -1,0 +1,9 @@
+pub mod Matched
+pub mod Distances
+pub mod Shells
+pub mod Rings
+pub mod RingNumbers
+pub mod MeshMaps
+pub mod Drift
+pub mod Wraps
+pub mod Smalls

@@ -1,0 +1,15 @@
+pub mod Apart
+pub mod Covers
+pub mod CoverLaws
+pub mod RingCoverLaws
+pub mod MeshMap
+pub mod PortTarget
+pub mod MeshCoverLaws
+pub mod Integers
+pub mod Whole
+pub mod Wrap
+pub mod WholeNet
+pub mod Small
+pub mod WholeLaws
+pub mod Cubic
+pub mod CubicLaws

@@ -1,0 +1,9 @@
+pub mod Places
+pub mod Rounds
+pub mod Gaps
+pub mod HalfWay
+pub mod Turns
+pub mod Forms
+pub mod RingCounts
+pub mod Smallest
+pub mod Square
