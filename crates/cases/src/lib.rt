@@ -1,4 +1,6 @@
 // Examples of sheets, read, written and shown: they are the tests of this crate.
+#![tactic(auto)]
+
 #[cfg(test)]
 mod refusals;
 #[cfg(test)]

@@ -1,5 +1,7 @@
 // Covers of graphs and of meshes, as mathematics: a map that lifts links and does not fold at short range keeps distances, shells and rings up to that range.
 // The functions here compute nothing: the contract of each is a theorem.
+#![tactic(auto)]
+
 ghost use Rattle.std.specs.Prelude.{◌≡◌, ℕ, ◌+◌, ◌*◌, ◌^◌, ◌<◌, List, ℤ, Some};
 ghost use Rattle.mesh.specs.Net.{Net};
 ghost use Rattle.mesh.specs.Junction.{Junction};

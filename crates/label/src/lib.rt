@@ -1,4 +1,6 @@
 // Label kinds: a group and a total order behind every stored label, and a written form.
+#![tactic(auto)]
+
 mod kind;
 mod pairs;
 mod refusals;

@@ -1,4 +1,6 @@
 // The least entry of a lent slice above a given one, and with it the entries in the order of their ranks, each rank once.
+#![tactic(auto)]
+
 mod ranks;
 mod search;
 #[cfg(test)]

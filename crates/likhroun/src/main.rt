@@ -1,4 +1,6 @@
 // The companion program: shows what a sheet holds.
+#![tactic(auto)]
+
 mod choice;
 
 use anyhow::anyhow;

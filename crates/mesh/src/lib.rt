@@ -1,6 +1,8 @@
 // The mesh that a net unfolds into, the derived graph of a voltage graph: its definitions, and what is proved of it.
 // The functions here compute nothing: the contract of each is a theorem.
 // A contract cannot speak of all types, so a theorem on every graph or every group is generic over a trait of ghost members alone.
+#![tactic(auto)]
+
 ghost use Rattle.std.specs.Prelude.{ℕ};
 ghost use Rattle.label.specs.Group.{Group};
 ghost use Rattle.label.specs.Order.{Order};

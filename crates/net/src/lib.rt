@@ -1,4 +1,6 @@
 // Nets: drawing a voltage graph line by line into a lent list.
+#![tactic(auto)]
+
 mod counts;
 mod drafts;
 mod drawing;

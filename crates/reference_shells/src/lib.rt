@@ -1,5 +1,7 @@
 // The shells of the reference meshes, counted by a search that is proved to find them.
 // The functions here compute nothing: the contract of each is a theorem.
+#![tactic(auto)]
+
 ghost use Rattle.mesh.specs.Net.{Net};
 ghost use Rattle.reference_shells.specs.BreadthFirstLaws.{BreadthFirstLaws};
 ghost use Rattle.reference_shells.specs.ReferenceLaws.{ReferenceLaws};

@@ -1,4 +1,6 @@
 // What the companion program prints: sheets, nets and refusals as text.
+#![tactic(auto)]
+
 mod faults;
 mod hex;
 mod labels;

@@ -1,4 +1,6 @@
 // Rings in any graph, as mathematics: cycles without a shortcut, when two are the same, and how many go through two links at a junction.
+#![tactic(auto)]
+
 ghost use Rattle.std.specs.Prelude.{◌≡◌, ℕ, ◌≢◌};
 ghost use Rattle.rings.specs.HalfWayLaws.{HalfWayLaws};
 ghost use Rattle.rings.specs.SameRingLaws.{SameRingLaws};

@@ -1,4 +1,6 @@
 // Whole runs: lists of calls on a net, and what every survey has that calls reach.
+#![tactic(auto)]
+
 mod driver;
 mod state;
 mod theorems;

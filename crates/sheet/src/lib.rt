@@ -1,4 +1,6 @@
 // Sheets: nets as bytes.
+#![tactic(auto)]
+
 mod faults;
 mod headings;
 mod kinds;

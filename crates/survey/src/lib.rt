@@ -1,4 +1,6 @@
 // Surveys: the mesh of a sealed net, unfolded shell by shell into a lent pool.
+#![tactic(auto)]
+
 mod asked;
 mod asking;
 mod found;
