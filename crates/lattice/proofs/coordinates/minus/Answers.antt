@@ -7,5 +7,5 @@ use Rattle.lattice.proofs.coordinates.minus.Goals as goal
 pub returns : goal.returns
 returns c =
     let a = c.args.a in
-    let r : c.wrapping-neg.result ≡ int_wrap w32 (neg_ℤ a) = search (rules, wraps) in
-    ap coord (to_z-of_z w32 _ (record { sfits = c.wrapping-neg.type-inv }) ∙ r) ∙ coord_is _ (neg_ℤ a) (wrapped_twice (neg_ℤ a)) ∙ ap (λ z. coord (neg_ℤ z)) (sym (int_wrap_fits w32 a c.ranges.a))
+    let r : c.wrapping_neg.result ≡ int_wrap w32 (neg_ℤ a) = search (rules, wraps) in
+    ap coord (to_z-of_z w32 _ (record { sfits = c.wrapping_neg.type_inv }) ∙ r) ∙ coord_is _ (neg_ℤ a) (wrapped_twice (neg_ℤ a)) ∙ ap (λ z. coord (neg_ℤ z)) (sym (int_wrap_fits w32 a c.ranges.a))

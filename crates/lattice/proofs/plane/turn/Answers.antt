@@ -13,17 +13,17 @@ below (pos n) = omega arith
 below (negsuc n) = omega arith
 
 pub returns-in-0 : goal.returns-in-0
-returns-in-0 c = counted _ _ 0 _ c.ranges.k c.quarters-of.ensures c.in-0.is
+returns-in-0 c = counted _ _ 0 _ c.ranges.k c.quarters_of.ensures c.in-0.is
 
 pub returns-in-1 : goal.returns-in-1
-returns-in-1 c = c.quarter-turn.ensures ∙ counted _ _ 1 _ c.ranges.k c.quarters-of.ensures c.in-1.is
+returns-in-1 c = c.quarter_turn.ensures ∙ counted _ _ 1 _ c.ranges.k c.quarters_of.ensures c.in-1.is
 
 pub returns-in-2 : goal.returns-in-2
 returns-in-2 c =
-    c.quarter-turn-in-2-2.ensures ∙ ap quarter c.quarter-turn-in-2.ensures ∙ counted _ _ 2 _ c.ranges.k c.quarters-of.ensures c.in-2.is
+    c.quarter_turn-in-2-2.ensures ∙ ap quarter c.quarter_turn-in-2.ensures ∙ counted _ _ 2 _ c.ranges.k c.quarters_of.ensures c.in-2.is
 
 pub returns-in-default : goal.returns-in-default
 returns-in-default c =
-    let three : c.quarters-of.result ≡ 3 = omega (arith, c.quarters-of.ensures, below (to_z w32 (of_z w32 c.args.k))) in
-    c.quarter-turn-in-default-3.ensures ∙ ap quarter (c.quarter-turn-in-default-2.ensures ∙ ap quarter c.quarter-turn-in-default.ensures)
-    ∙ counted _ _ 3 _ c.ranges.k c.quarters-of.ensures three
+    let three : c.quarters_of.result ≡ 3 = omega (arith, c.quarters_of.ensures, below (to_z w32 (of_z w32 c.args.k))) in
+    c.quarter_turn-in-default-3.ensures ∙ ap quarter (c.quarter_turn-in-default-2.ensures ∙ ap quarter c.quarter_turn-in-default.ensures)
+    ∙ counted _ _ 3 _ c.ranges.k c.quarters_of.ensures three

@@ -19,5 +19,5 @@ returns-in-len3 c =
     let g : SFits w32 (get_or xs 1 (pos 0)) = search rules in
     let h : SFits w32 (get_or xs 2 (pos 0)) = search rules in
     let p = three xs e in
-    let q : fit triple_slots (get_or xs 0 (pos 0) ∷ get_or xs 1 (pos 0) ∷ get_or xs 2 (pos 0) ∷ []) ≡ true = simp to_z-of_z at (sym c.all-in-range.ensures ∙ c.if-all-in-range.true) in
+    let q : fit triple_slots (get_or xs 0 (pos 0) ∷ get_or xs 1 (pos 0) ∷ get_or xs 2 (pos 0) ∷ []) ≡ true = simp to_z-of_z at (sym c.all_in_range.ensures ∙ c.if-all_in_range.true) in
     (simp to_z-of_z p, subst (λ ys. fit triple_slots ys ≡ true) (sym p) q)

@@ -3,7 +3,7 @@ use Rattle.std.proofs.lemmas.List.{take_all}
 use Rattle.least.specs.Least.{LeastClause}
 use Rattle.least.proofs.Fold.{taken, kept, one_more}
 use Rattle.least.proofs.search.least_above.Goals as goal
-use Rattle.least.proofs.search.least_above.Goals.{then-is-above+then-is-below, else-is-above, else-is-above-via-then-is-above+else-is-below, else-is-above-via-else-is-above}
+use Rattle.least.proofs.search.least_above.Goals.{then-is_above+then-is_below, else-is_above, else-is_above-via-then-is_above+else-is_below, else-is_above-via-else-is_above}
 
 pub loop-entry-preserved : goal.loop-entry-preserved
 loop-entry-preserved g c =
@@ -15,15 +15,15 @@ loop-entry-preserved g c =
     let before = take i c.args.entries.now in
     let inside : i < length c.args.entries.now = omega arith in
     let grown = one_more O rank c.args.entries.now c.args.floor i x inside c.entry-item.is in
-    elim c.if-is-above.branch [
-      | then-is-above+then-is-below w ↦
-          grown (Some x) c.if-is-above.least w.least-is
-          (taken O rank before c.args.floor x best c.loop-entry.invariant w.if-is-above.ensures w.if-is-below.ensures)
-      | else-is-above w ↦
-          grown best c.if-is-above.least w.least-is
-          (kept O rank before c.args.floor x best c.loop-entry.invariant (λ above below. elim w.else-is-above.branch [
-            | else-is-above-via-then-is-above+else-is-below v ↦ v.if-is-below.ensures below
-            | else-is-above-via-else-is-above v ↦ v.if-is-above.ensures above
+    elim c.if-is_above.branch [
+      | then-is_above+then-is_below w ↦
+          grown (Some x) c.if-is_above.least w.least-is
+          (taken O rank before c.args.floor x best c.loop-entry.invariant w.if-is_above.ensures w.if-is_below.ensures)
+      | else-is_above w ↦
+          grown best c.if-is_above.least w.least-is
+          (kept O rank before c.args.floor x best c.loop-entry.invariant (λ above below. elim w.else-is_above.branch [
+            | else-is_above-via-then-is_above+else-is_below v ↦ v.if-is_below.ensures below
+            | else-is_above-via-else-is_above v ↦ v.if-is_above.ensures above
           ]))
     ]
 

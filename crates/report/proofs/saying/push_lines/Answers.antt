@@ -9,7 +9,7 @@ loop-i-init g c = sym (append-nil (string_bytes c.args.text.now))
 pub loop-i-preserved : goal.loop-i-preserved
 loop-i-preserved g c =
     let inside : c.loop-i.i < length c.args.list.now = omega (arith, c.lines-i-end.ensures, c.requires, c.loop-i-test.true) in
-    lines_more g.K.ShownKind.shown (string_bytes c.args.text.now) (string_bytes c.loop-i.text) (string_bytes c.push-line.new.text) c.as-str.result.now c.args.list.now c.loop-i.i c.index-list-i.result inside c.index-list-i.is c.loop-i.invariant c.in-ok-push-line.ensures (c.as-str.ensures.value ∙ c.in-ok-line.ensures)
+    lines_more g.K.ShownKind.shown (string_bytes c.args.text.now) (string_bytes c.loop-i.text) (string_bytes c.push_line.new.text) c.as_str.result.now c.args.list.now c.loop-i.i c.index-list-i.result inside c.index-list-i.is c.loop-i.invariant c.in_ok-push_line.ensures (c.as_str.ensures.value ∙ c.in_ok-line.ensures)
 
 pub returns : goal.returns
 returns g c =

@@ -16,8 +16,8 @@ returns-in-Ok g c =
     let long : c.in-Ok.length ≡ length bytes = cc in
     let part : take (length after - 0) after ≡ bytes = take_all (length after - 0) after (omega arith) ∙ t.1 in
     let same : c.eq.result ≡ true = (slice_eq-Decides Decides-eqb (take (length after - 0) after) bytes c.eq.result c.eq.ensures).1 part in
-    let first = subst (λ (n : ℕ). IfOk c.again-text.result (λ s. string_bytes s ≡ again_said n c.eq.result)) long c.again-text.ensures in
-    subst (λ (b : Bool). IfOk c.again-text.result (λ s. string_bytes s ≡ again_said (length bytes) b)) same first
+    let first = subst (λ (n : ℕ). IfOk c.again_text.result (λ s. string_bytes s ≡ again_said n c.eq.result)) long c.again_text.ensures in
+    subst (λ (b : Bool). IfOk c.again_text.result (λ s. string_bytes s ≡ again_said (length bytes) b)) same first
 
 pub returns-in-Err : goal.returns-in-Err
 returns-in-Err g c =

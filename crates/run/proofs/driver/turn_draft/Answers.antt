@@ -8,7 +8,7 @@ returns-in-Line g c =
 
 pub returns-in-TakeBack : goal.returns-in-TakeBack
 returns-in-TakeBack g c =
-    rw c.in-TakeBack.is (back_turn g.L.Label.group g.L.Label.order g.L.Label.stands c.args.list.now c.args.pool.now c.args.draft c.take-back.new.self c.take-back.result c.take-back.ensures)
+    rw c.in-TakeBack.is (back_turn g.L.Label.group g.L.Label.order g.L.Label.stands c.args.list.now c.args.pool.now c.args.draft c.take_back.new.self c.take_back.result c.take_back.ensures)
 
 pub returns-in-Ok : goal.returns-in-Ok
 returns-in-Ok g c =

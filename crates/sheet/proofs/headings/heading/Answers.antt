@@ -34,69 +34,69 @@ module _ (bytes : List ℕ) (kind : ℕ) where
   count_at : (k q n r m s : ℕ) → k ≡ kind → NumberAt bytes 0 k q → NumberAt bytes q n r → NumberAt bytes r m s → NumbersAt bytes 0 (kind ∷ n ∷ m ∷ []) s
   count_at k q n r m s e one two three = numbers_more bytes 0 (kind ∷ n ∷ []) r m s (nodes_at k q n r e one two) three
 
-pub returns-in-err-kind : goal.returns-in-err-kind
-returns-in-err-kind g c =
-    let p = err_from_is_err_and c.from-residual.result c.from-residual.ensures.1 in
-    rw (p.1, p.2) (no_kind _ c.in-err-kind.ensures)
+pub returns-in_err-kind : goal.returns-in_err-kind
+returns-in_err-kind g c =
+    let p = err_from_is_err_and c.from_residual.result c.from_residual.ensures.1 in
+    rw (p.1, p.2) (no_kind _ c.in_err-kind.ensures)
 
 pub returns-then-kind : goal.returns-then-kind
 returns-then-kind g c =
-    let one = c.in-ok-kind.ensures in
-    let k = c.in-ok-kind.kind in
+    let one = c.in_ok-kind.ensures in
+    let k = c.in_ok-kind.kind in
     other_kind k.value (drop k.next c.args.bytes.now) one.small one.bytes_are (λ e. c.if-kind.true (e ∙ sym c.kind.ensures))
 
-pub returns-in-err-nodes : goal.returns-in-err-nodes
-returns-in-err-nodes g c =
+pub returns-in_err-nodes : goal.returns-in_err-nodes
+returns-in_err-nodes g c =
     let bs = c.args.bytes.now in
     let kind = g.K.SheetKind.kind in
-    let k = c.in-ok-kind.kind in
-    let at = kind_at bs kind k.value k.next (c.if-kind.false ∙ c.kind.ensures) c.in-ok-kind.ensures in
-    let p = err_from_is_err_and c.from-residual-in-err-nodes.result c.from-residual-in-err-nodes.ensures.1 in
-    rw (p.1, p.2) (no_nodes (drop k.next bs) _ at.bytes_are (moved bs kind (kind ∷ []) k.next _ at c.in-err-nodes.ensures))
+    let k = c.in_ok-kind.kind in
+    let at = kind_at bs kind k.value k.next (c.if-kind.false ∙ c.kind.ensures) c.in_ok-kind.ensures in
+    let p = err_from_is_err_and c.from_residual-in_err-nodes.result c.from_residual-in_err-nodes.ensures.1 in
+    rw (p.1, p.2) (no_nodes (drop k.next bs) _ at.bytes_are (moved bs kind (kind ∷ []) k.next _ at c.in_err-nodes.ensures))
 
-pub returns-in-err-lines : goal.returns-in-err-lines
-returns-in-err-lines g c =
+pub returns-in_err-lines : goal.returns-in_err-lines
+returns-in_err-lines g c =
     let bs = c.args.bytes.now in
     let kind = g.K.SheetKind.kind in
-    let k = c.in-ok-kind.kind in
-    let n = c.in-ok-nodes.nodes in
-    let at2 = nodes_at bs kind k.value k.next n.value n.next (c.if-kind.false ∙ c.kind.ensures) c.in-ok-kind.ensures c.in-ok-nodes.ensures in
-    let p = err_from_is_err_and c.from-residual-in-err-lines.result c.from-residual-in-err-lines.ensures.1 in
-    rw (p.1, p.2) (no_count n.value (drop n.next bs) _ c.in-Ok.ensures.0.0 at2.bytes_are (moved bs kind (kind ∷ n.value ∷ []) n.next _ at2 c.in-err-lines.ensures))
+    let k = c.in_ok-kind.kind in
+    let n = c.in_ok-nodes.nodes in
+    let at2 = nodes_at bs kind k.value k.next n.value n.next (c.if-kind.false ∙ c.kind.ensures) c.in_ok-kind.ensures c.in_ok-nodes.ensures in
+    let p = err_from_is_err_and c.from_residual-in_err-lines.result c.from_residual-in_err-lines.ensures.1 in
+    rw (p.1, p.2) (no_count n.value (drop n.next bs) _ c.in-Ok.ensures.0.0 at2.bytes_are (moved bs kind (kind ∷ n.value ∷ []) n.next _ at2 c.in_err-lines.ensures))
 
-pub returns-then-lines-gt-MOST-LINES : goal.returns-then-lines-gt-MOST-LINES
-returns-then-lines-gt-MOST-LINES g c =
+pub returns-then-lines-gt-MOST_LINES : goal.returns-then-lines-gt-MOST_LINES
+returns-then-lines-gt-MOST_LINES g c =
     let bs = c.args.bytes.now in
     let kind = g.K.SheetKind.kind in
-    let k = c.in-ok-kind.kind in
-    let n = c.in-ok-nodes.nodes in
-    let m = c.in-ok-lines.lines in
-    let at2 = nodes_at bs kind k.value k.next n.value n.next (c.if-kind.false ∙ c.kind.ensures) c.in-ok-kind.ensures c.in-ok-nodes.ensures in
-    let at3 = count_at bs kind k.value k.next n.value n.next m.value m.next (c.if-kind.false ∙ c.kind.ensures) c.in-ok-kind.ensures c.in-ok-nodes.ensures c.in-ok-lines.ensures in
-    placed bs kind (kind ∷ n.value ∷ []) n.next _ at2 (count_out n.value m.value (drop m.next bs) c.in-Ok.ensures.0.0 c.in-ok-lines.ensures.small at3.bytes_are c.if-lines-gt-MOST-LINES.true)
+    let k = c.in_ok-kind.kind in
+    let n = c.in_ok-nodes.nodes in
+    let m = c.in_ok-lines.lines in
+    let at2 = nodes_at bs kind k.value k.next n.value n.next (c.if-kind.false ∙ c.kind.ensures) c.in_ok-kind.ensures c.in_ok-nodes.ensures in
+    let at3 = count_at bs kind k.value k.next n.value n.next m.value m.next (c.if-kind.false ∙ c.kind.ensures) c.in_ok-kind.ensures c.in_ok-nodes.ensures c.in_ok-lines.ensures in
+    placed bs kind (kind ∷ n.value ∷ []) n.next _ at2 (count_out n.value m.value (drop m.next bs) c.in-Ok.ensures.0.0 c.in_ok-lines.ensures.small at3.bytes_are c.if-lines-gt-MOST_LINES.true)
 
 pub returns-in-Err : goal.returns-in-Err
 returns-in-Err g c =
     let bs = c.args.bytes.now in
     let kind = g.K.SheetKind.kind in
-    let k = c.in-ok-kind.kind in
-    let n = c.in-ok-nodes.nodes in
-    let at = kind_at bs kind k.value k.next (c.if-kind.false ∙ c.kind.ensures) c.in-ok-kind.ensures in
-    let at2 = nodes_at bs kind k.value k.next n.value n.next (c.if-kind.false ∙ c.kind.ensures) c.in-ok-kind.ensures c.in-ok-nodes.ensures in
-    placed bs kind (kind ∷ []) k.next _ at (nodes_out n.value (drop n.next bs) c.in-ok-nodes.ensures.small at2.bytes_are (open_broken c.in-Err.ensures.0))
+    let k = c.in_ok-kind.kind in
+    let n = c.in_ok-nodes.nodes in
+    let at = kind_at bs kind k.value k.next (c.if-kind.false ∙ c.kind.ensures) c.in_ok-kind.ensures in
+    let at2 = nodes_at bs kind k.value k.next n.value n.next (c.if-kind.false ∙ c.kind.ensures) c.in_ok-kind.ensures c.in_ok-nodes.ensures in
+    placed bs kind (kind ∷ []) k.next _ at (nodes_out n.value (drop n.next bs) c.in_ok-nodes.ensures.small at2.bytes_are (open_broken c.in-Err.ensures.0))
 
-pub returns-else-lines-gt-MOST-LINES : goal.returns-else-lines-gt-MOST-LINES
-returns-else-lines-gt-MOST-LINES g c =
+pub returns-else-lines-gt-MOST_LINES : goal.returns-else-lines-gt-MOST_LINES
+returns-else-lines-gt-MOST_LINES g c =
     let bs = c.args.bytes.now in
     let kind = g.K.SheetKind.kind in
-    let k = c.in-ok-kind.kind in
-    let n = c.in-ok-nodes.nodes in
-    let m = c.in-ok-lines.lines in
+    let k = c.in_ok-kind.kind in
+    let n = c.in_ok-nodes.nodes in
+    let m = c.in_ok-lines.lines in
     let opened = c.in-Ok.ensures.1 in
-    let at3 = count_at bs kind k.value k.next n.value n.next m.value m.next (c.if-kind.false ∙ c.kind.ensures) c.in-ok-kind.ensures c.in-ok-nodes.ensures c.in-ok-lines.ensures in
+    let at3 = count_at bs kind k.value k.next n.value n.next m.value m.next (c.if-kind.false ∙ c.kind.ensures) c.in_ok-kind.ensures c.in_ok-nodes.ensures c.in_ok-lines.ensures in
     record {
       nodes_in = λ out. elim out [ inl a ↦ omega (arith, c.in-Ok.draft.some_nodes) | inr b ↦ omega (arith, c.in-Ok.draft.few_nodes) ];
-      count_in = λ out. omega (arith, c.if-lines-gt-MOST-LINES.false);
+      count_in = λ out. omega (arith, c.if-lines-gt-MOST_LINES.false);
       blank = opened.blank;
       room = opened.room;
       numbers = subst (λ (x : ℕ). NumbersAt bs 0 (kind ∷ x ∷ m.value ∷ []) m.next) (sym opened.same_nodes) at3;

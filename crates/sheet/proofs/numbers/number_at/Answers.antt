@@ -43,7 +43,7 @@ returns-then-second-lt128 c =
     let p = c.args.place in
     let a = get_or bs p 0 in
     let b = get_or bs (p + 1) 0 in
-    let fa : a < 256 = (c.type-inv.bytes p).fits in
+    let fa : a < 256 = (c.type_inv.bytes p).fits in
     made bs (a ∷ b ∷ []) p (a - 128 + 128 * b) (p + 2) (omega arith) (bytes_two a b (omega arith) fa (omega arith) (omega arith)) (rest_two bs p (omega arith)) (omega arith) (omega arith)
 
 pub returns-then-end-place-lt3 : goal.returns-then-end-place-lt3
@@ -52,12 +52,12 @@ returns-then-end-place-lt3 c =
     let p = c.args.place in
     ends (subst Cut (sym (rest_two bs p (omega arith) ∙ ap (λ (q : List ℕ). get_or bs p 0 ∷ get_or bs (p + 1) 0 ∷ q) (rest_none bs (p + 2) (omega arith)))) (after_two (omega arith) (omega arith)))
 
-pub returns-then-no-last : goal.returns-then-no-last
-returns-then-no-last c =
+pub returns-then-no_last : goal.returns-then-no_last
+returns-then-no_last c =
     let bs = c.args.bytes.now in
     let p = c.args.place in
     let three = rest_three bs p (omega arith) in
-    malformed (elim c.if-no-last.ensures [
+    malformed (elim c.if-no_last.ensures [
       | inl z ↦ subst Malformed (sym (three ∙ ap (λ (x : ℕ). get_or bs p 0 ∷ get_or bs (p + 1) 0 ∷ x ∷ drop (p + 3) bs) z)) (zero_third (omega arith) (omega arith))
       | inr m ↦ subst Malformed (sym three) (endless (omega arith) (omega arith) m)
     ])
@@ -69,7 +69,7 @@ returns c =
     let a = get_or bs p 0 in
     let b = get_or bs (p + 1) 0 in
     let d = get_or bs (p + 2) 0 in
-    let last = c.if-no-last.ensures in
-    let fa : a < 256 = (c.type-inv.bytes p).fits in
-    let fb : b < 256 = (c.type-inv.bytes (p + 1)).fits in
+    let last = c.if-no_last.ensures in
+    let fa : a < 256 = (c.type_inv.bytes p).fits in
+    let fb : b < 256 = (c.type_inv.bytes (p + 1)).fits in
     made bs (a ∷ b ∷ d ∷ []) p (a - 128 + 128 * (b - 128 + 128 * d)) (p + 3) (omega arith) (bytes_three a b d (omega arith) fa (omega arith) fb (omega arith) (omega arith)) (rest_three bs p (omega arith)) (omega arith) (omega arith)

@@ -22,7 +22,7 @@ put-end-requires g c =
     let ns = numbers_of F g.K.Label.stands d list g.K.SheetKind.kind in
     let all = numbers_length F g.K.Label.stands d list c.requires.0 g.K.SheetKind.kind in
     let next = next_within ns c.loop-at.at (omega arith) in
-    let here = ap (λ (n : ℕ). length (stored n)) c.sheet-number.ensures in
+    let here = ap (λ (n : ℕ). length (stored n)) c.sheet_number.ensures in
     let rest = ap length (take_rest c.loop-at.out c.loop-at.end) ∙ length-drop c.loop-at.end c.loop-at.out in
     omega arith
 
@@ -34,7 +34,7 @@ overflow-add-end g c =
     let ns = numbers_of F g.K.Label.stands d list g.K.SheetKind.kind in
     let all = numbers_length F g.K.Label.stands d list c.requires.0 g.K.SheetKind.kind in
     let next = next_within ns c.loop-at.at (omega arith) in
-    let here = ap (λ (n : ℕ). length (stored n)) c.sheet-number.ensures in
+    let here = ap (λ (n : ℕ). length (stored n)) c.sheet_number.ensures in
     omega (arith, c.put-end.ensures.long)
 
 pub loop-at-preserved : goal.loop-at-preserved
@@ -47,10 +47,10 @@ loop-at-preserved g c =
     let i = c.loop-at.at in
     let end = c.loop-at.end in
     let inside : i < length ns = omega arith in
-    let n = c.sheet-number.result in
-    let more : text (take (i + 1) ns) ≡ text (take i ns) ++ stored n = text_more ns i inside ∙ ap (λ (m : ℕ). text (take i ns) ++ stored m) (sym c.sheet-number.ensures) in
+    let n = c.sheet_number.result in
+    let more : text (take (i + 1) ns) ≡ text (take i ns) ++ stored n = text_more ns i inside ∙ ap (λ (m : ℕ). text (take i ns) ++ stored m) (sym c.sheet_number.ensures) in
     let ends : end + c.put-end.result ≡ end + length (stored n) = ap (λ (k : ℕ). end + k) c.put-end.ensures.long in
-    let here = ap (λ (m : ℕ). length (stored m)) c.sheet-number.ensures in
+    let here = ap (λ (m : ℕ). length (stored m)) c.sheet_number.ensures in
     let longer = text_length_more ns i inside in (
       omega arith,
       put_more end (length (stored n)) (text (take i ns)) (stored n) c.args.out.now c.loop-at.out c.put-end.new.out (sym c.loop-at.invariant.0) refl c.loop-at.invariant.1 c.put-end.ensures.bytes

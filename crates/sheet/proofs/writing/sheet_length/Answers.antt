@@ -9,7 +9,7 @@ use Rattle.sheet.proofs.writing.sheet_length.Goals as goal
 pub overflow-add-sum : goal.overflow-add-sum
 overflow-add-sum g c =
     let few = few_numbers g.K.Label.form c.args.draft.now in
-    let short = (bytes_between c.sheet-number.result).1 in
+    let short = (bytes_between c.sheet_number.result).1 in
     omega arith
 
 pub loop-at-preserved : goal.loop-at-preserved
@@ -19,9 +19,9 @@ loop-at-preserved g c =
     let list = c.args.list.now in
     let ns = numbers_of F g.K.Label.stands d list g.K.SheetKind.kind in
     let all = numbers_length F g.K.Label.stands d list c.requires g.K.SheetKind.kind in
-    let short = (bytes_between c.sheet-number.result).1 in
+    let short = (bytes_between c.sheet_number.result).1 in
     let more = text_length_more ns c.loop-at.at (omega arith) in
-    let here = ap (λ (n : ℕ). length (stored n)) c.sheet-number.ensures in
+    let here = ap (λ (n : ℕ). length (stored n)) c.sheet_number.ensures in
     (omega arith, omega arith)
 
 pub returns : goal.returns

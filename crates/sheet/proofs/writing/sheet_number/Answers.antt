@@ -30,4 +30,4 @@ returns-in-default g c =
     let width : w ≡ 2 + length g.K.Label.form.slots = ap (λ (n : ℕ). 2 + n) c.width-long.ensures in
     let past : 3 ≤ c.args.at = omega arith in
     let d = c.args.draft.now in
-    c.line-number.ensures ∙ line_number_at g.K.Label.form g.K.Label.stands d c.args.list.now c.requires.0 w width g.K.SheetKind.kind c.args.at c.index-list-at.result past (subst (λ (v : ℕ). c.args.at < 3 + d.lines * v) (sym width) c.requires.1) c.index-list-at.is
+    c.line_number.ensures ∙ line_number_at g.K.Label.form g.K.Label.stands d c.args.list.now c.requires.0 w width g.K.SheetKind.kind c.args.at c.index-list-at.result past (subst (λ (v : ℕ). c.args.at < 3 + d.lines * v) (sym width) c.requires.1) c.index-list-at.is

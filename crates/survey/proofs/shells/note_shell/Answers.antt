@@ -16,8 +16,8 @@ pub loop-at-init : goal.loop-at-init
 loop-at-init g c =
     part_none g.L.Label.group g.L.Label.order g.L.Label.stands (net_of g.L.Label.stands c.args.draft.now c.args.list.now) c.args.distance c.args.used c.args.centre c.args.pool.now c.args.from (omega arith)
 
-pub note-neighbours-requires : goal.note-neighbours-requires
-note-neighbours-requires g c =
+pub note_neighbours-requires : goal.note_neighbours-requires
+note_neighbours-requires g c =
     let s = c.loop-at.invariant.sized in
     let e = c.lines.ensures in
     (omega arith, (omega arith, (omega arith, omega arith)))
@@ -25,20 +25,20 @@ note-neighbours-requires g c =
 pub loop-at-preserved : goal.loop-at-preserved
 loop-at-preserved g c =
     part_joined g.L.Label.group g.L.Label.order g.L.Label.stands (net_of g.L.Label.stands c.args.draft.now c.args.list.now) c.args.distance c.args.used c.args.centre c.args.pool.now c.args.from (omega arith)
-    c.loop-at.at c.index-pool-at.result c.loop-at.auto.at (omega arith) c.loop-at.end c.loop-at.pool c.note-neighbours.new.pool (Ok c.in-ok-end.end) c.loop-at.auto.pool c.index-pool-at.is c.loop-at.invariant
-    (subst (λ (j : Junction g.row.L.Denot). Stepped g.L.Label.order g.L.Label.stands c.args.distance c.loop-at.end c.loop-at.pool (led g.L.Label.group c.args.centre (g.L.Label.stands j.label) (ports_of g.L.Label.group j.node (lines_of g.L.Label.stands c.args.draft.now.lines c.args.list.now))) (Ok c.in-ok-end.end) c.note-neighbours.new.pool) c.junction-junction.ensures
-    (subst (λ (k : ℕ). Stepped g.L.Label.order g.L.Label.stands c.args.distance c.loop-at.end c.loop-at.pool (led g.L.Label.group c.args.centre (g.L.Label.stands c.junction-junction.result.label) (ports_of g.L.Label.group c.junction-junction.result.node (lines_of g.L.Label.stands k c.args.list.now))) (Ok c.in-ok-end.end) c.note-neighbours.new.pool) c.lines.ensures c.in-ok-end.ensures))
+    c.loop-at.at c.index-pool-at.result c.loop-at.auto.at (omega arith) c.loop-at.end c.loop-at.pool c.note_neighbours.new.pool (Ok c.in_ok-end.end) c.loop-at.auto.pool c.index-pool-at.is c.loop-at.invariant
+    (subst (λ (j : Junction g.row.L.Denot). Stepped g.L.Label.order g.L.Label.stands c.args.distance c.loop-at.end c.loop-at.pool (led g.L.Label.group c.args.centre (g.L.Label.stands j.label) (ports_of g.L.Label.group j.node (lines_of g.L.Label.stands c.args.draft.now.lines c.args.list.now))) (Ok c.in_ok-end.end) c.note_neighbours.new.pool) c.junction-junction.ensures
+    (subst (λ (k : ℕ). Stepped g.L.Label.order g.L.Label.stands c.args.distance c.loop-at.end c.loop-at.pool (led g.L.Label.group c.args.centre (g.L.Label.stands c.junction-junction.result.label) (ports_of g.L.Label.group c.junction-junction.result.node (lines_of g.L.Label.stands k c.args.list.now))) (Ok c.in_ok-end.end) c.note_neighbours.new.pool) c.lines.ensures c.in_ok-end.ensures))
 
-pub returns-in-err-end : goal.returns-in-err-end
-returns-in-err-end g c =
-    let p = err_from_is_err_and c.from-residual.result c.from-residual.ensures.1 in
+pub returns-in_err-end : goal.returns-in_err-end
+returns-in_err-end g c =
+    let p = err_from_is_err_and c.from_residual.result c.from_residual.ensures.1 in
     rw p.1
     (part_short g.L.Label.group g.L.Label.order g.L.Label.stands (net_of g.L.Label.stands c.args.draft.now c.args.list.now) c.args.distance c.args.used c.args.centre c.args.pool.now c.args.from (omega arith)
-    (c.loop-at.at + 1) c.args.to (let h = c.loop-at.auto.at in omega arith) (omega arith) p.0 c.note-neighbours.new.pool
+    (c.loop-at.at + 1) c.args.to (let h = c.loop-at.auto.at in omega arith) (omega arith) p.0 c.note_neighbours.new.pool
     (part_joined g.L.Label.group g.L.Label.order g.L.Label.stands (net_of g.L.Label.stands c.args.draft.now c.args.list.now) c.args.distance c.args.used c.args.centre c.args.pool.now c.args.from (omega arith)
-    c.loop-at.at c.index-pool-at.result c.loop-at.auto.at (omega arith) c.loop-at.end c.loop-at.pool c.note-neighbours.new.pool (Err p.0) c.loop-at.auto.pool c.index-pool-at.is c.loop-at.invariant
-    (subst (λ (j : Junction g.row.L.Denot). Stepped g.L.Label.order g.L.Label.stands c.args.distance c.loop-at.end c.loop-at.pool (led g.L.Label.group c.args.centre (g.L.Label.stands j.label) (ports_of g.L.Label.group j.node (lines_of g.L.Label.stands c.args.draft.now.lines c.args.list.now))) (Err p.0) c.note-neighbours.new.pool) c.junction-junction.ensures
-    (subst (λ (k : ℕ). Stepped g.L.Label.order g.L.Label.stands c.args.distance c.loop-at.end c.loop-at.pool (led g.L.Label.group c.args.centre (g.L.Label.stands c.junction-junction.result.label) (ports_of g.L.Label.group c.junction-junction.result.node (lines_of g.L.Label.stands k c.args.list.now))) (Err p.0) c.note-neighbours.new.pool) c.lines.ensures c.in-err-end.ensures))))
+    c.loop-at.at c.index-pool-at.result c.loop-at.auto.at (omega arith) c.loop-at.end c.loop-at.pool c.note_neighbours.new.pool (Err p.0) c.loop-at.auto.pool c.index-pool-at.is c.loop-at.invariant
+    (subst (λ (j : Junction g.row.L.Denot). Stepped g.L.Label.order g.L.Label.stands c.args.distance c.loop-at.end c.loop-at.pool (led g.L.Label.group c.args.centre (g.L.Label.stands j.label) (ports_of g.L.Label.group j.node (lines_of g.L.Label.stands c.args.draft.now.lines c.args.list.now))) (Err p.0) c.note_neighbours.new.pool) c.junction-junction.ensures
+    (subst (λ (k : ℕ). Stepped g.L.Label.order g.L.Label.stands c.args.distance c.loop-at.end c.loop-at.pool (led g.L.Label.group c.args.centre (g.L.Label.stands c.junction-junction.result.label) (ports_of g.L.Label.group c.junction-junction.result.node (lines_of g.L.Label.stands k c.args.list.now))) (Err p.0) c.note_neighbours.new.pool) c.lines.ensures c.in_err-end.ensures))))
 
 pub returns : goal.returns
 returns g c =

@@ -5,19 +5,19 @@ use Rattle.label.specs.Clauses.{ReadClause}
 use Rattle.label.specs.PairForm.{pair_form, roomy}
 use Rattle.label.proofs.Seams.{stand_beside, out_of_range, in_range_counts, pair_read}
 use Rattle.label.proofs.pairs.PairLabel.read.Goals as goal
-use Rattle.label.proofs.pairs.PairLabel.read.Goals.{then-not-few-together-via-then-not-few-together, then-not-few-together-via-else-not-few-together+then-numbers-a}
+use Rattle.label.proofs.pairs.PairLabel.read.Goals.{then-not-few_together-via-then-not-few_together, then-not-few_together-via-else-not-few_together+then-numbers-a}
 
-pub returns-then-not-few-together : goal.returns-then-not-few-together
-returns-then-not-few-together g c =
+pub returns-then-not-few_together : goal.returns-then-not-few_together
+returns-then-not-few_together g c =
     let F = g.A.Label.form in
     let G = g.B.Label.form in
     out_of_range (pair_form F G) (stand_beside g.A.Label.stands g.B.Label.stands) c.args.numbers.now (λ e.
     let n = in_range_counts F G c.args.numbers.now e in
-    elim c.then-not-few-together.branch [
-      | then-not-few-together-via-then-not-few-together w ↦
+    elim c.then-not-few_together.branch [
+      | then-not-few_together-via-then-not-few_together w ↦
           let no : roomy F G ≡ false = cc in
           both_ways (roomy F G) no n.0
-      | then-not-few-together-via-else-not-few-together+then-numbers-a w ↦ w.if-numbers-a.true (omega arith)
+      | then-not-few_together-via-else-not-few_together+then-numbers-a w ↦ w.if-numbers-a.true (omega arith)
     ])
 
 pub returns : goal.returns

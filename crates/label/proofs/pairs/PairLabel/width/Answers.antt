@@ -4,4 +4,4 @@ use Rattle.label.proofs.pairs.PairLabel.width.Goals as goal
 
 pub returns : goal.returns
 returns g c =
-    c.pair-numbers.ensures ∙ count_is g.A.Label.form g.B.Label.form c.width.ensures c.width-2.ensures
+    c.pair_numbers.ensures ∙ count_is g.A.Label.form g.B.Label.form c.width.ensures c.width-2.ensures

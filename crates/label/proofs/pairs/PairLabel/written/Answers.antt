@@ -15,6 +15,6 @@ returns-else-at-a g c =
     let F = g.A.Label.form in
     let G = g.B.Label.form in
     let r : roomy F G ≡ true = cc in
-    let n : c.saturating-sub.result ≡ c.args.at - length F.slots = cc in
+    let n : c.saturating_sub.result ≡ c.args.at - length F.slots = cc in
     let k = rw n at c.in-Ok-Ok.ensures' in
     sym (written_second F G _ c.args.at _ r _ _ (omega arith) (sym c.in-Ok-Ok.ensures) (sym k))

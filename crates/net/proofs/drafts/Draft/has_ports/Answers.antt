@@ -3,20 +3,20 @@ use Rattle.mesh.proofs.Ported.{ports_count_push}
 use Rattle.net.specs.Verdict.{here, later}
 use Rattle.net.specs.Model.{line_of, lines_of}
 use Rattle.net.proofs.drafts.Draft.has_ports.Goals as goal
-use Rattle.net.proofs.drafts.Draft.has_ports.Goals.{then-too-many-via-then-too-many, then-too-many-via-else-too-many+then-too-many-2}
+use Rattle.net.proofs.drafts.Draft.has_ports.Goals.{then-too_many-via-then-too_many, then-too_many-via-else-too_many+then-too_many-2}
 
-pub returns-then-port-taken : goal.returns-then-port-taken
-returns-then-port-taken g c = (here c.if-port-taken.ensures, tt)
+pub returns-then-port_taken : goal.returns-then-port_taken
+returns-then-port_taken g c = (here c.if-port_taken.ensures, tt)
 
-pub returns-then-too-many : goal.returns-then-too-many
-returns-then-too-many g c =
+pub returns-then-too_many : goal.returns-then-too_many
+returns-then-too_many g c =
     let l = line_of g.L.Label.stands c.args.line in
     let before = lines_of g.L.Label.stands c.args.self.now.lines c.args.list.now in
     let tail = ports_count_push g.L.Label.group l.tail before l in
     let head = ports_count_push g.L.Label.group l.head before l in (
-      later c.if-port-taken.ensures (here (elim c.then-too-many.branch [
-        | then-too-many-via-then-too-many w ↦ inl (omega (arith, w.if-too-many.ensures))
-        | then-too-many-via-else-too-many+then-too-many-2 w ↦ inr (omega (arith, w.if-too-many-2.ensures))
+      later c.if-port_taken.ensures (here (elim c.then-too_many.branch [
+        | then-too_many-via-then-too_many w ↦ inl (omega (arith, w.if-too_many.ensures))
+        | then-too_many-via-else-too_many+then-too_many-2 w ↦ inr (omega (arith, w.if-too_many-2.ensures))
       ])),
       tt,
     )
@@ -27,6 +27,6 @@ returns g c =
     let before = lines_of g.L.Label.stands c.args.self.now.lines c.args.list.now in
     let tail = ports_count_push g.L.Label.group l.tail before l in
     let head = ports_count_push g.L.Label.group l.head before l in
-    let few_tail = c.if-too-many.ensures in
-    let few_head = c.if-too-many-2.ensures in
-    ((c.if-port-taken.ensures, (λ full. elim full [ inl t ↦ omega arith | inr h ↦ omega arith ], tt)), tt)
+    let few_tail = c.if-too_many.ensures in
+    let few_head = c.if-too_many-2.ensures in
+    ((c.if-port_taken.ensures, (λ full. elim full [ inl t ↦ omega arith | inr h ↦ omega arith ], tt)), tt)

@@ -19,19 +19,19 @@ module _ {L M : Type 0} (stands : L → M) {b : Bool} {o : Option M} (inside : b
 ranged : (xs : List ℕ) (zs : List ℤ) → zs ≡ map pos xs → length xs ≡ 8 → points xs ≡ true → fit image_slots zs ≡ true
 ranged xs zs e l p = ap (fit image_slots) e ∙ fit_points 8 xs l p
 
-pub returns-then-not-all-once : goal.returns-then-not-all-once
-returns-then-not-all-once c =
+pub returns-then-not-all_once : goal.returns-then-not-all_once
+returns-then-not-all_once c =
     let xs = c.in-Some.images in
     let l : length xs ≡ 8 = search rules in
     let e = c.in-Some.ensures in
     refused _ (ranged xs c.args.numbers.now e.0 l e.1)
-    (ap perm_read e.0 ∙ perm_read_no xs (and_right (eqb (length xs) 8) (points xs && each_once xs) (and_right (points xs) (each_once xs) (sym c.if-not-all-once.ensures))))
+    (ap perm_read e.0 ∙ perm_read_no xs (and_right (eqb (length xs) 8) (points xs && each_once xs) (and_right (points xs) (each_once xs) (sym c.if-not-all_once.ensures))))
 
 pub returns : goal.returns
 returns c =
     let xs = c.in-Some.images in
     let l : length xs ≡ 8 = search rules in
     let e = c.in-Some.ensures in
-    let g = permutes_from xs l e.1 (sym c.if-not-all-once.ensures) in
+    let g = permutes_from xs l e.1 (sym c.if-not-all_once.ensures) in
     taken _ (ranged xs c.args.numbers.now e.0 l e.1) c.number.result (xs, g) (ap perm_read e.0 ∙ perm_read_yes xs g)
-    (c.number.ensures.0 ∙ perm_same _ _ c.with-images.ensures)
+    (c.number.ensures.0 ∙ perm_same _ _ c.with_images.ensures)

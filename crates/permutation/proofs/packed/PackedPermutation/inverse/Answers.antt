@@ -4,4 +4,4 @@ use Rattle.symmetric.proofs.Laws.{perm_same}
 use Rattle.permutation.proofs.packed.PackedPermutation.inverse.Goals as goal
 
 pub returns : goal.returns
-returns c = perm_same _ _ (c.with-images.ensures ∙ c.inverted.ensures.0 ∙ ap undone c.images.ensures.0)
+returns c = perm_same _ _ (c.with_images.ensures ∙ c.inverted.ensures.0 ∙ ap undone c.images.ensures.0)

@@ -3,8 +3,8 @@ use Rattle.symmetric.proofs.Laws.{perm_same}
 use Rattle.symmetric.proofs.Packed.{chosen_packed, chosen_else}
 use Rattle.permutation.proofs.packed.PackedPermutation.of.Goals as goal
 
-pub returns-then-packs-one : goal.returns-then-packs-one
-returns-then-packs-one c = perm_same _ _ (sym (chosen_packed c.args.number.0 (sym c.packs-one.ensures ∙ c.if-packs-one.true)))
+pub returns-then-packs_one : goal.returns-then-packs_one
+returns-then-packs_one c = perm_same _ _ (sym (chosen_packed c.args.number.0 (sym c.packs_one.ensures ∙ c.if-packs_one.true)))
 
 pub returns : goal.returns
-returns c = c.identity.ensures ∙ perm_same _ _ (sym (chosen_else c.args.number.0 (sym c.packs-one.ensures ∙ c.if-packs-one.false)))
+returns c = c.identity.ensures ∙ perm_same _ _ (sym (chosen_else c.args.number.0 (sym c.packs_one.ensures ∙ c.if-packs_one.false)))

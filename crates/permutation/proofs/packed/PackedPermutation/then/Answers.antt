@@ -6,5 +6,5 @@ use Rattle.permutation.proofs.packed.PackedPermutation.then.Goals as goal
 
 pub returns : goal.returns
 returns c =
-    perm_same _ _ (c.with-images.ensures ∙ c.composed.ensures.0 ∙ ap (λ (xs : List ℕ). followed xs c.images-2.result) c.images.ensures.0
+    perm_same _ _ (c.with_images.ensures ∙ c.composed.ensures.0 ∙ ap (λ (xs : List ℕ). followed xs c.images-2.result) c.images.ensures.0
     ∙ ap (followed (perm c.args.self).0) c.images-2.ensures.0)

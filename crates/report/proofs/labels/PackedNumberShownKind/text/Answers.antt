@@ -16,4 +16,4 @@ returns c =
     let l : length xs ≡ 8 = (facts_of xs c.images.ensures.1).len in
     let e : followed unmoved xs ≡ chosen c.args.self.0 = read_again xs l ∙ (c.images.ensures.0 ∙ ap (λ p. p.0) c.of.ensures) in
     let told = spelled _ _ _ _ _ _ _ _ ∙ ap (λ ys. codes "[" ++ (spaced ys ++ codes "]")) e in
-    subst (λ bs. IfOk c.format.result (λ s. string_bytes s ≡ bs)) told (simp (c.in-ok-low.ensures, c.in-ok-high.ensures) at c.format.ensures.ok)
+    subst (λ bs. IfOk c.format.result (λ s. string_bytes s ≡ bs)) told (simp (c.in_ok-low.ensures, c.in_ok-high.ensures) at c.format.ensures.ok)

@@ -5,22 +5,22 @@ use Rattle.survey.proofs.Lents.{lent_known}
 use Rattle.survey.proofs.Grows.{not_strange, grow_early, grow_short, frontier_ascend, frontier_inside, grow_done}
 use Rattle.survey.proofs.surveys.Survey.grow.Goals as goal
 
-pub returns-then-not-is-lent : goal.returns-then-not-is-lent
-returns-then-not-is-lent g c =
-    let t = c.if-not-is-lent.ensures in
+pub returns-then-not-is_lent : goal.returns-then-not-is_lent
+returns-then-not-is_lent g c =
+    let t = c.if-not-is_lent.ensures in
     grow_early g.L.Label.group g.L.Label.order g.L.Label.stands c.args.self.now c.args.list.now c.args.pool.now refusal.OtherLength (here t) (λ o h. not_strange g.L.Label.group g.L.Label.order g.L.Label.stands c.args.self.now c.args.list.now c.args.pool.now o t)
 
-pub returns-then-self-ge-MOST-ROUNDS : goal.returns-then-self-ge-MOST-ROUNDS
-returns-then-self-ge-MOST-ROUNDS g c =
+pub returns-then-self-ge-MOST_ROUNDS : goal.returns-then-self-ge-MOST_ROUNDS
+returns-then-self-ge-MOST_ROUNDS g c =
     let s = c.args.self.now in
-    let lent = c.if-not-is-lent.ensures in
+    let lent = c.if-not-is_lent.ensures in
     grow_early g.L.Label.group g.L.Label.order g.L.Label.stands s c.args.list.now c.args.pool.now refusal.RadiusFull
-    (later (lent_known s _ _ lent) (here c.if-self-ge-MOST-ROUNDS.true)) (λ o h. let z : ⊥ = omega arith in z)
+    (later (lent_known s _ _ lent) (here c.if-self-ge-MOST_ROUNDS.true)) (λ o h. let z : ⊥ = omega arith in z)
 
 pub invariant-of-self : goal.invariant-of-self
 invariant-of-self g c =
     let s = c.args.self.now in
-    let lent = c.if-not-is-lent.ensures in
+    let lent = c.if-not-is_lent.ensures in
     let u = c.in-Ok.ensures in
     let more = u.more in
     let room = u.room in (
@@ -42,9 +42,9 @@ invariant-of-self g c =
 
 pub returns-in-Ok : goal.returns-in-Ok
 returns-in-Ok g c =
-    grow_done g.L.Label.group g.L.Label.order g.L.Label.stands c.args.self.now c.args.list.now c.args.pool.now c.if-not-is-lent.ensures (omega arith) c.unfold.new.pool c.unfold.auto.pool c.in-Ok.frontier c.in-Ok.ensures _ refl refl refl refl refl
+    grow_done g.L.Label.group g.L.Label.order g.L.Label.stands c.args.self.now c.args.list.now c.args.pool.now c.if-not-is_lent.ensures (omega arith) c.unfold.new.pool c.unfold.auto.pool c.in-Ok.frontier c.in-Ok.ensures _ refl refl refl refl refl
 
 pub returns-in-Err : goal.returns-in-Err
 returns-in-Err g c =
     let u = c.in-Err.ensures in
-    grow_short g.L.Label.group g.L.Label.order g.L.Label.stands c.args.self.now c.args.list.now c.args.pool.now c.if-not-is-lent.ensures (omega arith) c.unfold.new.pool c.unfold.auto.pool u.0 u.1
+    grow_short g.L.Label.group g.L.Label.order g.L.Label.stands c.args.self.now c.args.list.now c.args.pool.now c.if-not-is_lent.ensures (omega arith) c.unfold.new.pool c.unfold.auto.pool u.0 u.1

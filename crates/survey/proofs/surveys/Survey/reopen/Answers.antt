@@ -3,8 +3,8 @@ use Rattle.net.specs.Verdict.{here}
 use Rattle.survey.proofs.Lents.{lent_known}
 use Rattle.survey.proofs.surveys.Survey.reopen.Goals as goal
 
-pub returns-then-not-is-lent : goal.returns-then-not-is-lent
-returns-then-not-is-lent g c = (here c.if-not-is-lent.ensures, refl)
+pub returns-then-not-is_lent : goal.returns-then-not-is_lent
+returns-then-not-is_lent g c = (here c.if-not-is_lent.ensures, refl)
 
 pub returns : goal.returns
-returns g c = ((lent_known c.args.self _ _ c.if-not-is-lent.ensures, tt), refl)
+returns g c = ((lent_known c.args.self _ _ c.if-not-is_lent.ensures, tt), refl)

@@ -22,9 +22,9 @@ marked marks m k v at h e l = ap (λ (i : ℕ). get_or marks i 0) e ∙ m at l
 
 pub invariant-of-result : goal.invariant-of-result
 invariant-of-result g c =
-    let m = c.first-marks-marks.ensures in
-    let long = c.place-homes.auto.pool in
-    let marks = c.first-marks-marks.result in (
+    let m = c.first_marks-marks.ensures in
+    let long = c.place_homes.auto.pool in
+    let marks = c.first_marks-marks.result in (
       omega arith,
       (
         omega arith,
@@ -46,11 +46,11 @@ invariant-of-result g c =
 
 pub returns : goal.returns
 returns g c =
-    let m = c.first-marks-marks.ensures in
-    let long = c.place-homes.auto.pool in
+    let m = c.first_marks-marks.ensures in
+    let long = c.place_homes.auto.pool in
     let nodes = c.nodes-nodes.ensures in
-    let homes = subst (λ (n : ℕ). found g.L.Label.stands n c.place-homes.new.pool ≡ map (home_entry g.L.Label.group) (range_with_len 0 n)) nodes c.place-homes.ensures in (
+    let homes = subst (λ (n : ℕ). found g.L.Label.stands n c.place_homes.new.pool ≡ map (home_entry g.L.Label.group) (range_with_len 0 n)) nodes c.place_homes.ensures in (
       ((λ n. n (omega arith)), ((λ s. elim s [ inl h ↦ (let z : ⊥ = omega arith in z) | inr h ↦ (let z : ⊥ = omega arith in z) ]), tt)),
-      seal_done g.L.Label.group g.L.Label.order g.L.Label.stands c.args.draft c.args.list.now c.args.pool.now c.place-homes.new.pool _ (omega arith) long refl refl nodes long
-          (λ v h. marked c.first-marks-marks.result m 0 v v (omega arith) (omega arith) (omega arith)) homes,
+      seal_done g.L.Label.group g.L.Label.order g.L.Label.stands c.args.draft c.args.list.now c.args.pool.now c.place_homes.new.pool _ (omega arith) long refl refl nodes long
+          (λ v h. marked c.first_marks-marks.result m 0 v v (omega arith) (omega arith) (omega arith)) homes,
     )
