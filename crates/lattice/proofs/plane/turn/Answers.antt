@@ -22,8 +22,8 @@ pub returns-in-2 : goal.returns-in-2
 returns-in-2 c =
     c.quarter_turn-in-2-2.ensures ∙ ap quarter c.quarter_turn-in-2.ensures ∙ counted _ _ 2 _ c.ranges.k c.quarters_of.ensures c.in-2.is
 
-pub returns-in-default : goal.returns-in-default
-returns-in-default c =
+pub returns-in_default : goal.returns-in_default
+returns-in_default c =
     let three : c.quarters_of.result ≡ 3 = omega (arith, c.quarters_of.ensures, below (to_z w32 (of_z w32 c.args.k))) in
-    c.quarter_turn-in-default-3.ensures ∙ ap quarter (c.quarter_turn-in-default-2.ensures ∙ ap quarter c.quarter_turn-in-default.ensures)
+    c.quarter_turn-in_default-3.ensures ∙ ap quarter (c.quarter_turn-in_default-2.ensures ∙ ap quarter c.quarter_turn-in_default.ensures)
     ∙ counted _ _ 3 _ c.ranges.k c.quarters_of.ensures three

@@ -6,12 +6,12 @@ use Rattle.symmetric.proofs.Occurrences.{points_from}
 use Rattle.symmetric.proofs.Written.{fit_not}
 use Rattle.permutation.proofs.kind.images_in.Goals as goal
 
-pub returns-in-default : goal.returns-in-default
-returns-in-default c =
+pub returns-in_default : goal.returns-in_default
+returns-in_default c =
     let xs = c.args.numbers.now in
     let i = c.loop-i.i in
     let fits : SFits w32 (get_or xs i (pos 0)) = search rules in
-    fit_not xs i (omega arith) (simp to_z-of_z at c.in-default.ensures)
+    fit_not xs i (omega arith) (simp to_z-of_z at c.in_default.ensures)
 
 pub loop-i-preserved : goal.loop-i-preserved
 loop-i-preserved c =

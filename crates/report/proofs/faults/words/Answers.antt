@@ -68,6 +68,6 @@ pub returns-in-31 : goal.returns-in-31
 unfolding words_of
 returns-in-31 c = ap words_of (sym c.in-31.is)
 
-pub returns-in-default : goal.returns-in-default
+pub returns-in_default : goal.returns-in_default
 unfolding words_of
-returns-in-default c = grind (arith, nat_tests)
+returns-in_default c = grind (arith, nat_tests)

@@ -10,10 +10,10 @@ pub returns-then-text-at-eq1 : goal.returns-then-text-at-eq1
 returns-then-text-at-eq1 c =
     c.loop-at.invariant.1 ∙ ap (after _) (hex_at_odd _ _ c.if-text-at-eq1.true (sym c.if-is_blank.ensures))
 
-pub returns-in-default : goal.returns-in-default
-returns-in-default c =
+pub returns-in_default : goal.returns-in_default
+returns-in_default c =
     let two : c.loop-at.at + 1 < length c.args.text.now = omega arith in
-    c.loop-at.invariant.1 ∙ ap (after _) (hex_at_two _ _ None two (sym c.if-is_blank.ensures) c.in-default.ensures)
+    c.loop-at.invariant.1 ∙ ap (after _) (hex_at_two _ _ None two (sym c.if-is_blank.ensures) c.in_default.ensures)
 
 pub loop-at-preserved : goal.loop-at-preserved
 loop-at-preserved c =

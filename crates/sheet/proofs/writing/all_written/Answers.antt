@@ -28,7 +28,7 @@ loop-i-preserved g c =
     let i = c.loop-i.i in
     let list = c.args.list.now in
     let within : i < length list = omega arith in
-    let has = told (F.tells (g.L.Label.stands x.label)) 0 _ (ap (λ y. written_at (F.tells (g.L.Label.stands y.label)) 0) c.index-list-i.is ∙ sym c.in-default.ensures) in
+    let has = told (F.tells (g.L.Label.stands x.label)) 0 _ (ap (λ y. written_at (F.tells (g.L.Label.stands y.label)) 0) c.index-list-i.is ∙ sym c.in_default.ensures) in
     subst (λ (ls : List (mesh.Line g.L.Label.Meaning)). AllWritten F ls) (sym (lines_more g.L.Label.stands list i x within c.index-list-i.is))
     (written_push F (lines_of g.L.Label.stands i list) (line_of g.L.Label.stands x) c.loop-i.invariant has)
 

@@ -4,15 +4,15 @@ use Rattle.sheet.specs.Codes.{code}
 use Rattle.sheet.proofs.Tellings.{told_at, past_slots, past_numbers, untold}
 use Rattle.sheet.proofs.writing.label_number.Goals as goal
 
-pub returns-in-default : goal.returns-in-default
-returns-in-default g c =
+pub returns-in_default : goal.returns-in_default
+returns-in_default g c =
     let F = g.L.Label.form in
-    sym (past_slots F.slots (F.tells (g.L.Label.stands c.args.label)) c.args.at (sym c.in-default.ensures))
+    sym (past_slots F.slots (F.tells (g.L.Label.stands c.args.label)) c.args.at (sym c.in_default.ensures))
 
-pub returns-in-default-written : goal.returns-in-default-written
-returns-in-default-written g c =
+pub returns-in_default-written : goal.returns-in_default-written
+returns-in_default-written g c =
     let F = g.L.Label.form in
-    sym (untold F.slots (F.tells (g.L.Label.stands c.args.label)) c.args.at _ (sym c.in-default-written.ensures))
+    sym (untold F.slots (F.tells (g.L.Label.stands c.args.label)) c.args.at _ (sym c.in_default-written.ensures))
 
 pub returns-in-Some-told : goal.returns-in-Some-told
 returns-in-Some-told g c =

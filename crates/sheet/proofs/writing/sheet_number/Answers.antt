@@ -24,8 +24,8 @@ returns-in-2 g c =
     c.lines.ensures ∙ sym (lines_long F g.K.Label.stands d c.args.list.now c.requires.0)
     ∙ ap (λ (k : ℕ). get_or (numbers_of F g.K.Label.stands d c.args.list.now g.K.SheetKind.kind) k 0) (sym c.in-2.is)
 
-pub returns-in-default : goal.returns-in-default
-returns-in-default g c =
+pub returns-in_default : goal.returns-in_default
+returns-in_default g c =
     let w = 2 + c.width-long.result in
     let width : w ≡ 2 + length g.K.Label.form.slots = ap (λ (n : ℕ). 2 + n) c.width-long.ensures in
     let past : 3 ≤ c.args.at = omega arith in

@@ -17,8 +17,8 @@ returns-then-self-ge-MOST_ROUNDS g c =
     grow_early g.L.Label.group g.L.Label.order g.L.Label.stands s c.args.list.now c.args.pool.now refusal.RadiusFull
     (later (lent_known s _ _ lent) (here c.if-self-ge-MOST_ROUNDS.true)) (λ o h. let z : ⊥ = omega arith in z)
 
-pub invariant-of-self : goal.invariant-of-self
-invariant-of-self g c =
+pub invariant_of-self : goal.invariant_of-self
+invariant_of-self g c =
     let s = c.args.self.now in
     let lent = c.if-not-is_lent.ensures in
     let u = c.in-Ok.ensures in

@@ -20,8 +20,8 @@ returns-then-pool-nodes g c =
 marked : (marks : _) → ((v : ℕ) → v < 25 → get_or marks v 0 ≡ v) → (k v at : ℕ) → k ≤ 0 → 25 * k + v ≡ at → at < 25 → get_or marks (25 * k + v) 0 ≡ at
 marked marks m k v at h e l = ap (λ (i : ℕ). get_or marks i 0) e ∙ m at l
 
-pub invariant-of-result : goal.invariant-of-result
-invariant-of-result g c =
+pub invariant_of-result : goal.invariant_of-result
+invariant_of-result g c =
     let m = c.first_marks-marks.ensures in
     let long = c.place_homes.auto.pool in
     let marks = c.first_marks-marks.result in (
