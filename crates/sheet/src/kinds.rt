@@ -1,6 +1,6 @@
 ghost use Rattle.std.specs.Prelude.{◌≡◌, ℕ};
 ghost use Rattle.sheet.specs.Stored.{Small};
-ghost use Rattle.std.proofs.Common.{rules};
+ghost use Rattle.std.proofs.Common.{lit<};
 
 use label::{Label, Pair};
 use lattice::{Screw, Translation};
@@ -19,7 +19,7 @@ pub trait SheetKind: Label {
 impl SheetKind for Translation {
     ghost kind = { 1 };
 
-    ghost small = { Prim.search rules };
+    ghost small = { lit< tt };
 
     fn kind() -> u32 {
         1
@@ -29,7 +29,7 @@ impl SheetKind for Translation {
 impl SheetKind for Screw {
     ghost kind = { 2 };
 
-    ghost small = { Prim.search rules };
+    ghost small = { lit< tt };
 
     fn kind() -> u32 {
         2
@@ -39,7 +39,7 @@ impl SheetKind for Screw {
 impl SheetKind for PackedNumber {
     ghost kind = { 3 };
 
-    ghost small = { Prim.search rules };
+    ghost small = { lit< tt };
 
     fn kind() -> u32 {
         3
@@ -49,7 +49,7 @@ impl SheetKind for PackedNumber {
 impl SheetKind for Pair<Translation, PackedNumber> {
     ghost kind = { 4 };
 
-    ghost small = { Prim.search rules };
+    ghost small = { lit< tt };
 
     fn kind() -> u32 {
         4

@@ -9,4 +9,4 @@ unreachable-requires g c = ports_told (net_of g.K.Label.stands c.args.draft.now 
 
 pub loop-node-preserved : goal.loop-node-preserved
 loop-node-preserved g c =
-    ports_more (λ u. length (ports g.K.Label.group (net_of g.K.Label.stands c.args.draft.now c.args.list.now) u)) (string_bytes c.args.text.now) (string_bytes c.loop-node.text) (string_bytes c.push_line.new.text) c.as_str.result.now c.loop-node.node c.in-Ok.ports c.loop-node.invariant c.in_ok-push_line.ensures (c.as_str.ensures.value ∙ c.in_ok-ports_text.ensures) c.in-Ok.ensures.1
+    ports_more (λ u. length (ports g.K.Label.group (net_of g.K.Label.stands c.args.draft.now c.args.list.now) u)) (string_bytes c.args.text.now) (string_bytes c.loop-node.text) (string_bytes c.push_line.new.text) c.as_str.result.now c.loop-node.node c.in-Ok.ports c.loop-node.invariant c.in_ok-push_line-in-Ok.ensures (c.as_str.ensures.value ∙ c.in_ok-ports_text-in-Ok.ensures) c.in-Ok.ensures.1

@@ -54,15 +54,15 @@ returns-in_err-nodes g c =
     let p = err_from_is_err_and c.from_residual-in_err-nodes.result c.from_residual-in_err-nodes.ensures.1 in
     rw (p.1, p.2) (no_nodes (drop k.next bs) _ at.bytes_are (moved bs kind (kind ∷ []) k.next _ at c.in_err-nodes.ensures))
 
-pub returns-in_err-lines : goal.returns-in_err-lines
-returns-in_err-lines g c =
+pub returns-in_err-lines-in-Ok : goal.returns-in_err-lines-in-Ok
+returns-in_err-lines-in-Ok g c =
     let bs = c.args.bytes.now in
     let kind = g.K.SheetKind.kind in
     let k = c.in_ok-kind.kind in
     let n = c.in_ok-nodes.nodes in
     let at2 = nodes_at bs kind k.value k.next n.value n.next (c.if-kind.false ∙ c.kind.ensures) c.in_ok-kind.ensures c.in_ok-nodes.ensures in
-    let p = err_from_is_err_and c.from_residual-in_err-lines.result c.from_residual-in_err-lines.ensures.1 in
-    rw (p.1, p.2) (no_count n.value (drop n.next bs) _ c.in-Ok.ensures.0.0 at2.bytes_are (moved bs kind (kind ∷ n.value ∷ []) n.next _ at2 c.in_err-lines.ensures))
+    let p = err_from_is_err_and c.from_residual-in_err-lines-in-Ok.result c.from_residual-in_err-lines-in-Ok.ensures.1 in
+    rw (p.1, p.2) (no_count n.value (drop n.next bs) _ c.in-Ok.ensures.0.0 at2.bytes_are (moved bs kind (kind ∷ n.value ∷ []) n.next _ at2 c.in_err-lines-in-Ok.ensures))
 
 pub returns-then-lines-gt-MOST_LINES : goal.returns-then-lines-gt-MOST_LINES
 returns-then-lines-gt-MOST_LINES g c =
@@ -70,10 +70,10 @@ returns-then-lines-gt-MOST_LINES g c =
     let kind = g.K.SheetKind.kind in
     let k = c.in_ok-kind.kind in
     let n = c.in_ok-nodes.nodes in
-    let m = c.in_ok-lines.lines in
+    let m = c.in_ok-lines-in-Ok.lines in
     let at2 = nodes_at bs kind k.value k.next n.value n.next (c.if-kind.false ∙ c.kind.ensures) c.in_ok-kind.ensures c.in_ok-nodes.ensures in
-    let at3 = count_at bs kind k.value k.next n.value n.next m.value m.next (c.if-kind.false ∙ c.kind.ensures) c.in_ok-kind.ensures c.in_ok-nodes.ensures c.in_ok-lines.ensures in
-    placed bs kind (kind ∷ n.value ∷ []) n.next _ at2 (count_out n.value m.value (drop m.next bs) c.in-Ok.ensures.0.0 c.in_ok-lines.ensures.small at3.bytes_are c.if-lines-gt-MOST_LINES.true)
+    let at3 = count_at bs kind k.value k.next n.value n.next m.value m.next (c.if-kind.false ∙ c.kind.ensures) c.in_ok-kind.ensures c.in_ok-nodes.ensures c.in_ok-lines-in-Ok.ensures in
+    placed bs kind (kind ∷ n.value ∷ []) n.next _ at2 (count_out n.value m.value (drop m.next bs) c.in-Ok.ensures.0.0 c.in_ok-lines-in-Ok.ensures.small at3.bytes_are c.if-lines-gt-MOST_LINES.true)
 
 pub returns-in-Err : goal.returns-in-Err
 returns-in-Err g c =
@@ -91,9 +91,9 @@ returns-else-lines-gt-MOST_LINES g c =
     let kind = g.K.SheetKind.kind in
     let k = c.in_ok-kind.kind in
     let n = c.in_ok-nodes.nodes in
-    let m = c.in_ok-lines.lines in
+    let m = c.in_ok-lines-in-Ok.lines in
     let opened = c.in-Ok.ensures.1 in
-    let at3 = count_at bs kind k.value k.next n.value n.next m.value m.next (c.if-kind.false ∙ c.kind.ensures) c.in_ok-kind.ensures c.in_ok-nodes.ensures c.in_ok-lines.ensures in
+    let at3 = count_at bs kind k.value k.next n.value n.next m.value m.next (c.if-kind.false ∙ c.kind.ensures) c.in_ok-kind.ensures c.in_ok-nodes.ensures c.in_ok-lines-in-Ok.ensures in
     record {
       nodes_in = λ out. elim out [ inl a ↦ omega (arith, c.in-Ok.draft.some_nodes) | inr b ↦ omega (arith, c.in-Ok.draft.few_nodes) ];
       count_in = λ out. omega (arith, c.if-lines-gt-MOST_LINES.false);

@@ -27,16 +27,16 @@ returns-in_err-place g c =
     let kind = g.K.SheetKind.kind in
     let bs = c.args.bytes.now in
     rw (p.1, p.2, told.2)
-    (underway_refused G F g.K.Label.stands kind bs c.args.list.now c.in_ok-draft.field-0.lines c.loop-i.draft c.loop-i.list c.loop-i.-i c.loop-i.place c.loop-i.invariant c.loop-i-test.true told.0)
+    (underway_refused G F g.K.Label.stands kind bs c.args.list.now c.in_ok-draft.field-0.lines c.loop-i.draft c.loop-i.list c.loop-i._i c.loop-i.place c.loop-i.invariant c.loop-i-test.true told.0)
 
 pub loop-i-preserved : goal.loop-i-preserved
 loop-i-preserved g c =
-    underway_more g.K.Label.group g.K.Label.form g.K.Label.stands g.K.SheetKind.kind c.args.bytes.now c.args.list.now c.in_ok-draft.field-0.lines c.loop-i.draft c.draw_line_at.new.draft c.loop-i.list c.draw_line_at.new.list c.loop-i.-i c.loop-i.place c.in_ok-place.place c.loop-i.invariant c.in_ok-place.ensures
+    underway_more g.K.Label.group g.K.Label.form g.K.Label.stands g.K.SheetKind.kind c.args.bytes.now c.args.list.now c.in_ok-draft.field-0.lines c.loop-i.draft c.draw_line_at.new.draft c.loop-i.list c.draw_line_at.new.list c.loop-i._i c.loop-i.place c.in_ok-place.place c.loop-i.invariant c.in_ok-place.ensures
 
 pub returns-then-place-bytes : goal.returns-then-place-bytes
 returns-then-place-bytes g c =
-    underway_left g.K.Label.group g.K.Label.form g.K.Label.stands g.K.SheetKind.kind c.args.bytes.now c.args.list.now c.in_ok-draft.field-0.lines c.loop-i.draft c.loop-i.list c.loop-i.-i c.loop-i.place c.loop-i.invariant (omega arith) c.if-place-bytes.true
+    underway_left g.K.Label.group g.K.Label.form g.K.Label.stands g.K.SheetKind.kind c.args.bytes.now c.args.list.now c.in_ok-draft.field-0.lines c.loop-i.draft c.loop-i.list c.loop-i._i c.loop-i.place c.loop-i.invariant (omega arith) c.if-place-bytes.true
 
 pub returns : goal.returns
 returns g c =
-    underway_done g.K.Label.group g.K.Label.form g.K.Label.stands g.K.SheetKind.kind c.args.bytes.now c.args.list.now c.in_ok-draft.field-0.lines c.loop-i.draft c.loop-i.list c.loop-i.-i c.loop-i.place c.loop-i.invariant (omega arith) c.if-place-bytes.false
+    underway_done g.K.Label.group g.K.Label.form g.K.Label.stands g.K.SheetKind.kind c.args.bytes.now c.args.list.now c.in_ok-draft.field-0.lines c.loop-i.draft c.loop-i.list c.loop-i._i c.loop-i.place c.loop-i.invariant (omega arith) c.if-place-bytes.false

@@ -6,13 +6,13 @@ use Rattle.sheet.proofs.Texts.{text_more, text_length_more, text_whole, text_fro
 use Rattle.sheet.proofs.Indices.{numbers_length}
 use Rattle.sheet.proofs.writing.put_sheet.Goals as goal
 
-pub slice-bounds-put-count : goal.slice-bounds-put-count
-slice-bounds-put-count g c =
+pub slice_bounds-put-count : goal.slice_bounds-put-count
+slice_bounds-put-count g c =
     let ns = numbers_of g.K.Label.form g.K.Label.stands c.args.draft.now c.args.list.now g.K.SheetKind.kind in
     omega (arith, text_front ns c.loop-at.at)
 
-pub slice-bounds-put-start : goal.slice-bounds-put-start
-slice-bounds-put-start g c = let within = slice-bounds-put-count g c in search rules
+pub slice_bounds-put-start : goal.slice_bounds-put-start
+slice_bounds-put-start g c = let within = slice_bounds-put-count g c in search rules
 
 pub put-end-requires : goal.put-end-requires
 put-end-requires g c =
@@ -26,8 +26,8 @@ put-end-requires g c =
     let rest = ap length (take_rest c.loop-at.out c.loop-at.end) ∙ length-drop c.loop-at.end c.loop-at.out in
     omega arith
 
-pub overflow-add-end : goal.overflow-add-end
-overflow-add-end g c =
+pub overflow_add-end : goal.overflow_add-end
+overflow_add-end g c =
     let F = g.K.Label.form in
     let d = c.args.draft.now in
     let list = c.args.list.now in

@@ -6,8 +6,8 @@ use Rattle.sheet.proofs.Texts.{text_length_more, text_whole}
 use Rattle.sheet.proofs.Indices.{few_numbers, numbers_length}
 use Rattle.sheet.proofs.writing.sheet_length.Goals as goal
 
-pub overflow-add-sum : goal.overflow-add-sum
-overflow-add-sum g c =
+pub overflow_add-sum : goal.overflow_add-sum
+overflow_add-sum g c =
     let few = few_numbers g.K.Label.form c.args.draft.now in
     let short = (bytes_between c.sheet_number.result).1 in
     omega arith

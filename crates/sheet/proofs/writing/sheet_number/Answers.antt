@@ -14,8 +14,8 @@ bounds-list-at g c =
     let below = line_below g.K.Label.form g.K.Label.stands d c.args.list.now can w width c.args.at past (subst (λ (v : ℕ). c.args.at < 3 + d.lines * v) (sym width) c.requires.1) in
     omega arith
 
-pub offset-bounds-list-at : goal.offset-bounds-list-at
-offset-bounds-list-at g c = omega (arith, bounds-list-at g c)
+pub offset_bounds-list-at : goal.offset_bounds-list-at
+offset_bounds-list-at g c = omega (arith, bounds-list-at g c)
 
 pub returns-in-2 : goal.returns-in-2
 returns-in-2 g c =

@@ -2,11 +2,11 @@ use Rattle.std.proofs.Common.{◌≡◌, ◌<◌, List, length, set, refl, ap, a
 use Rattle.std.proofs.lemmas.Option.{slice_get_read}
 use Rattle.survey.proofs.notes.add.Goals as goal
 
-pub offset-bounds-pool-under : goal.offset-bounds-pool-under
-offset-bounds-pool-under g c = let inside : c.args.under < length c.args.pool.now = omega arith in search rules
+pub offset_bounds-pool-under : goal.offset_bounds-pool-under
+offset_bounds-pool-under g c = let inside : c.args.under < length c.args.pool.now = omega arith in search rules
 
-pub offset-bounds-pool-under-2 : goal.offset-bounds-pool-under-2
-offset-bounds-pool-under-2 g c = let inside : c.args.under < length c.args.pool.now = omega arith in search rules
+pub offset_bounds-pool-under-2 : goal.offset_bounds-pool-under-2
+offset_bounds-pool-under-2 g c = let inside : c.args.under < length c.args.pool.now = omega arith in search rules
 
 pub returns : goal.returns
 returns g c =

@@ -5,8 +5,8 @@ use Rattle.survey.specs.Found.{entry_of}
 use Rattle.survey.proofs.Seals.{homes_more}
 use Rattle.survey.proofs.sealing.place_homes.Goals as goal
 
-pub offset-bounds-pool-v : goal.offset-bounds-pool-v
-offset-bounds-pool-v g c = let inside : c.loop-v.v < length c.args.pool.now = omega arith in search rules
+pub offset_bounds-pool-v : goal.offset_bounds-pool-v
+offset_bounds-pool-v g c = let inside : c.loop-v.v < length c.args.pool.now = omega arith in search rules
 
 pub loop-v-preserved : goal.loop-v-preserved
 loop-v-preserved g c =

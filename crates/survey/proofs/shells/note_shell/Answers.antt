@@ -45,7 +45,7 @@ returns g c =
     let all : c.loop-at.at ≡ c.args.to = let h = c.loop-at.auto.at in omega arith in
     subst (λ (k : ℕ). Stepped g.L.Label.order g.L.Label.stands c.args.distance c.args.used c.args.pool.now (targets g.L.Label.group (net_of g.L.Label.stands c.args.draft.now c.args.list.now) c.args.centre (junctions (between c.args.from k (found g.L.Label.stands c.args.used c.args.pool.now)))) (Ok c.loop-at.end) c.loop-at.pool) all c.loop-at.invariant
 
-pub offset-bounds-pool-at : goal.offset-bounds-pool-at
-offset-bounds-pool-at g c =
+pub offset_bounds-pool-at : goal.offset_bounds-pool-at
+offset_bounds-pool-at g c =
     let inside : c.loop-at.at < length c.args.pool.now = omega arith in
     search rules
