@@ -1,5 +1,5 @@
 -- A found list that grows by one shell, node by node.
-use Rattle.std.proofs.Common.{◌≡◌, ℕ, zero, suc, ◌+◌, ◌<◌, ◌≤◌, ◌⊎◌, List, [], ◌∷◌, ◌++◌, map, length, take, sym, refl, ap, ◌∙◌, subst, inl, inr, arith, take-suc}
+use Rattle.std.proofs.Common.{◌≡◌, ℕ, zero, suc, ◌<◌, ◌≤◌, ◌⊎◌, List, [], ◌∷◌, ◌++◌, map, length, take, sym, refl, ap, ◌∙◌, subst, inl, inr, arith, take-suc}
 use mathlib.Core.List.{map-map}
 use native.Mathlib.Decide.{dec_le, dec_lt}
 use Rattle.std.specs.List.{range_with_len, between}

@@ -1,9 +1,9 @@
 -- A line drawn or taken back, on the net that draft and list hold.
-use Rattle.std.proofs.Common.{◌≡◌, ℕ, zero, suc, ◌+◌, ◌<◌, ◌≤◌, ◌≢◌, List, [], ◌∷◌, ◌++◌, map, length, take, set, sym, refl, ap, ◌∙◌, subst, inl, inr, arith}
+use Rattle.std.proofs.Common.{◌≡◌, ℕ, zero, suc, ◌+◌, ◌<◌, ◌≤◌, List, [], ◌∷◌, ◌++◌, map, length, take, set, sym, refl, ap, ◌∙◌, subst, arith}
 use Rattle.std.proofs.lemmas.List.{take_more_set, map_push, same_from_push, length_push}
 use Rattle.label.specs.Group.{Group}
 use Rattle.mesh.specs.Net as mesh
-use Rattle.mesh.specs.Drawn.{Allowed, Drawing, blank, draw, Drawn}
+use Rattle.mesh.specs.Drawn.{Drawing, blank, draw, Drawn}
 use Rattle.net.specs.Verdict.{NoneOf}
 use Rattle.net.specs.Model.{line_of, lines_of, net_of, with_line}
 use Rattle.net.specs.Rules.{LineBreaks, line_rules}

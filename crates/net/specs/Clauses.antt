@@ -1,5 +1,5 @@
 -- What each call of drawing answers and leaves. Assumes nothing.
-use Rattle.std.specs.Prelude.{◌≡◌, ℕ, ◌+◌, ◌<◌, ◌≤◌, ◌≢◌, List, [], length, Result, slice_set}
+use Rattle.std.specs.Prelude.{◌≡◌, ℕ, ◌+◌, List, [], length, Result, slice_set}
 use Rattle.label.specs.Group.{Group}
 use Rattle.mesh.specs.Net as mesh
 use Rattle.mesh.specs.Drawn.{Drawn}

@@ -1,5 +1,5 @@
 -- The reference refusals: of a number past its range, of a number too long, and of a loop whose label is its own inverse.
-use Rattle.std.proofs.Common.{◌≡◌, ℕ, zero, suc, ◌+◌, ◌-◌, ◌<◌, ◌≤◌, true, leb, ◌≢◌, List, [], ◌∷◌, ◌++◌, length, take, ℤ, pos, negsuc, Some, Err, Result, refl, ap, subst, inl, inr, arith, lit<}
+use Rattle.std.proofs.Common.{◌≡◌, ℕ, zero, suc, ◌+◌, ◌-◌, ◌<◌, ◌≤◌, true, leb, ◌≢◌, List, ◌∷◌, ◌++◌, length, take, ℤ, pos, negsuc, Some, Err, Result, refl, ap, subst, inl, inr, arith, lit<}
 use Rattle.std.specs.List.{slice_get}
 use Rattle.std.proofs.lemmas.Bool.{leb-true, and_parts}
 use Rattle.label.specs.Form.{Form, fit, inside}

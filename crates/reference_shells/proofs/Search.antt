@@ -3,7 +3,6 @@ use Rattle.std.proofs.Common.{◌≡◌, ℕ, zero, suc, ◌+◌, ◌<◌, List,
 use native.Mathlib.Decide.{dec_le}
 use Rattle.label.specs.Group.{Group}
 use Rattle.label.specs.Order.{Order}
-use Rattle.mesh.specs.Listed.{In}
 use Rattle.mesh.specs.Exactly.{Exactly, Many}
 use Rattle.mesh.specs.Distance.{Distance}
 use Rattle.mesh.specs.Net.{Net}

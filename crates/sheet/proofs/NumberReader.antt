@@ -1,5 +1,5 @@
 -- Reading one number, in bytes that lead up to the end of a sheet: the bytes left tell the place.
-use Rattle.std.proofs.Common.{◌≡◌, ℕ, ◌+◌, ◌-◌, ◌≤◌, List, [], ◌∷◌, ◌++◌, length, Ok, Err, Result, sym, refl, ap, ◌∙◌, subst, append_assoc, arith, length-append}
+use Rattle.std.proofs.Common.{◌≡◌, ℕ, ◌+◌, ◌-◌, ◌≤◌, List, ◌∷◌, ◌++◌, length, Ok, Err, Result, sym, refl, ap, ◌∙◌, subst, append_assoc, arith, length-append}
 use Rattle.sheet.specs.Stored.{Small, stored, text}
 use Rattle.sheet.specs.Faults.{Unreadable, ends, malformed}
 use Rattle.sheet.specs.declared.faults.Placed.{Placed}

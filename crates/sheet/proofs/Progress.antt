@@ -1,6 +1,5 @@
 -- A sheet read as far as some of its lines.
-use Rattle.std.proofs.Common.{◌≡◌, ℕ, ◌+◌, ◌<◌, ◌≤◌, ◌≢◌, List, [], ◌∷◌, ◌++◌, length, drop, set, ℤ, Some, unwrap_or, sym, refl, ap, ◌∙◌, subst, inl, inr, append_assoc, zero-add, arith, length-append, length-set}
-use Rattle.std.specs.List.{flat_map}
+use Rattle.std.proofs.Common.{◌≡◌, ℕ, ◌+◌, ◌<◌, ◌≤◌, ◌≢◌, List, [], ◌∷◌, ◌++◌, length, drop, ℤ, Some, unwrap_or, sym, refl, ap, ◌∙◌, subst, append_assoc, zero-add, arith, length-append, length-set}
 use Rattle.std.proofs.lemmas.List.{append-nil, drop_all, drop-drop, drop-set-lt, flat_map_more, length-drop}
 use Rattle.label.specs.Group.{Group}
 use Rattle.label.specs.Form.{Form}
@@ -12,13 +11,12 @@ use Rattle.net.specs.Rules.{LineBreaks, line_rules}
 use Rattle.net.proofs.Steps.{lines_count}
 use Rattle.net.specs.declared.records.Line.{Line}
 use Rattle.net.specs.declared.drafts.Draft.{Draft}
-use Rattle.net.specs.declared.refusals.NetRefusal.{NetRefusal}
-use Rattle.sheet.specs.Stored.{stored, text}
+use Rattle.sheet.specs.Stored.{text}
 use Rattle.sheet.specs.Codes.{codes}
-use Rattle.sheet.specs.Sheet.{line_numbers, numbers_so_far, sheet, AllWritten}
+use Rattle.sheet.specs.Sheet.{line_numbers, numbers_so_far, AllWritten}
 use Rattle.sheet.specs.Faults as faults
 use Rattle.sheet.specs.Faults.{at_place, NodesOut, CountOut, NoLine, Begins, Refused}
-use Rattle.sheet.specs.Reading.{NumberAt, NumbersAt, HeadingAt, LineAt, Drew, NoDraw, unread_line, refused_line}
+use Rattle.sheet.specs.Reading.{NumbersAt, HeadingAt, LineAt, Drew, NoDraw, unread_line, refused_line}
 use Rattle.sheet.specs.Clauses.{WasRead, WasRefused}
 use Rattle.sheet.specs.declared.numbers.Heading.{Heading}
 use Rattle.sheet.specs.declared.faults.SheetFault.{SheetFault}

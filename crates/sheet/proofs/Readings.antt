@@ -1,5 +1,5 @@
 -- What the answer of a label's reading tells of its numbers.
-use Rattle.std.proofs.Common.{◌≡◌, ℕ, Bool, true, false, ◌⊎◌, Some, None, Ok, Err, Option, Result, sym, refl, ap, inl, inr, arith}
+use Rattle.std.proofs.Common.{◌≡◌, ℕ, Bool, true, false, ◌⊎◌, Some, None, Ok, Err, Option, Result, sym, refl, ap, inl, inr}
 use Rattle.label.specs.Clauses.{ReadAs}
 use Rattle.sheet.proofs.Readers.{ok_err}
 use Rattle.sheet.specs.Faults.{at_place, placed_at}

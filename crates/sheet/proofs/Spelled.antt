@@ -1,18 +1,18 @@
 -- A label's numbers as they are read, one after another.
-use Rattle.std.proofs.Common.{◌≡◌, ℕ, suc, ◌+◌, ◌<◌, ◌≤◌, Bool, true, false, ◌&&◌, ◌⊎◌, List, [], ◌∷◌, ◌++◌, length, take, drop, set, ℤ, Some, None, Ok, Err, sym, refl, ap, ◌∙◌, subst, inl, inr, add-one, arith}
+use Rattle.std.proofs.Common.{◌≡◌, ℕ, ◌+◌, ◌<◌, ◌≤◌, true, false, List, [], ◌∷◌, ◌++◌, length, take, drop, set, ℤ, Some, Ok, Err, sym, ap, ◌∙◌, subst, inl, inr, add-one}
 use Rattle.std.specs.List.{slice_get}
 use Rattle.std.proofs.lemmas.List.{take_more_set, take_all}
-use Rattle.std.proofs.lemmas.Bool.{and_from, and_cases, both_ways}
-use Rattle.label.specs.Form.{Form, inside, fit, in_range}
+use Rattle.std.proofs.lemmas.Bool.{and_cases, both_ways}
+use Rattle.label.specs.Form.{Form, fit, in_range}
 use Rattle.label.specs.Clauses.{ReadClause}
 use Rattle.label.specs.declared.written.Slot.{Slot}
 use Rattle.label.specs.declared.refusals.LabelFault.{LabelFault}
-use Rattle.label.specs.declared.refusals.LabelFault.TheVariants.{OutOfRange, NoPermutation}
-use Rattle.sheet.specs.Stored.{stored, text}
+use Rattle.label.specs.declared.refusals.LabelFault.TheVariants.{OutOfRange}
+use Rattle.sheet.specs.Stored.{text}
 use Rattle.sheet.specs.Codes.{code, codes}
 use Rattle.sheet.specs.Faults as faults
 use Rattle.sheet.specs.Faults.{at_place, Unreadable, NoLabel, ALabel}
-use Rattle.sheet.specs.Reading.{NumberAt, NumbersAt, SlotNumberAt, SlotOutside, NoSlotNumber, unread, outside, LabelAt}
+use Rattle.sheet.specs.Reading.{NumbersAt, SlotNumberAt, NoSlotNumber, unread, outside, LabelAt}
 use Rattle.sheet.specs.declared.faults.SheetFault.{SheetFault}
 use Rattle.sheet.specs.declared.faults.SheetFault.TheVariants as sheet
 use Rattle.sheet.proofs.Places.{numbers_more}

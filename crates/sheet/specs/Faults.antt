@@ -1,12 +1,11 @@
 -- Why bytes are no sheet: the fault that reading tells, with its place. Assumes nothing.
-use Rattle.std.specs.Prelude.{◌≡◌, ℕ, ◌+◌, ◌<◌, ◌≤◌, Bool, true, false, ◌≢◌, ◌⊎◌, List, [], ◌∷◌, ◌++◌, length, take, ℤ, Some, None, Ok, Err, Option, Result}
+use Rattle.std.specs.Prelude.{◌≡◌, ℕ, ◌+◌, ◌<◌, true, false, ◌≢◌, ◌⊎◌, List, [], ◌∷◌, ◌++◌, length, take, ℤ, Some, None, Ok, Err, Result}
 use Rattle.std.specs.List.{slice_get}
 use Rattle.label.specs.Group.{Group}
 use Rattle.label.specs.Form.{Form, inside, fit, in_range}
 use Rattle.label.specs.declared.written.Slot.{Slot}
-use Rattle.label.specs.declared.refusals.LabelFault.{LabelFault}
 use Rattle.label.specs.declared.refusals.LabelFault.TheVariants as label
-use Rattle.mesh.specs.Net.{Line, Net}
+use Rattle.mesh.specs.Net.{Line}
 use Rattle.mesh.specs.Drawn.{Drawn}
 use Rattle.net.specs.Verdict.{First}
 use Rattle.net.specs.Rules.{LineBreaks, line_rules}

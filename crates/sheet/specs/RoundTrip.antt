@@ -1,5 +1,5 @@
 -- What reading and writing make of each other. Assumes nothing.
-use Rattle.std.specs.Prelude.{◌≡◌, ℕ, ◌≤◌, List, ◌++◌, length, take, drop, Ok, Err, Result, MatchResult}
+use Rattle.std.specs.Prelude.{◌≡◌, ℕ, ◌≤◌, List, ◌++◌, length, take, drop, Ok, Result, MatchResult}
 use Rattle.label.specs.Group.{Group}
 use Rattle.label.specs.Form.{Form}
 use Rattle.mesh.specs.Drawn.{Drawn}

@@ -1,5 +1,5 @@
 -- The answers of the questions to a survey.
-use Rattle.std.proofs.Common.{◌≡◌, ℕ, suc, ◌-◌, ◌<◌, ◌≤◌, List, [], ◌∷◌, map, length, take, drop, Some, None, Less, sym, refl, ap, ◌∙◌, subst, arith}
+use Rattle.std.proofs.Common.{◌≡◌, ℕ, ◌-◌, ◌<◌, ◌≤◌, List, [], ◌∷◌, map, length, take, drop, Some, None, Less, sym, refl, ap, ◌∙◌, subst, arith}
 use Rattle.std.specs.List.{between, slice_get}
 use Rattle.std.proofs.lemmas.List.{take-map, drop-map, length-map}
 use Rattle.std.proofs.lemmas.List.Edits.{length-between}
@@ -7,7 +7,6 @@ use Rattle.label.specs.Group.{Group}
 use Rattle.label.specs.Order.{Order}
 use Rattle.mesh.specs.Listed.{In}
 use Rattle.mesh.specs.Exactly.{Exactly, Many}
-use Rattle.mesh.specs.Net.{Net}
 use Rattle.mesh.specs.Junction as mesh
 use Rattle.mesh.specs.JunctionOrder.{junction_order}
 use Rattle.mesh.specs.Shell.{Shell}

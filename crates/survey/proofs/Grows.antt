@@ -1,12 +1,11 @@
 -- The answers of growing.
-use Rattle.std.proofs.Common.{◌≡◌, ℕ, suc, ◌+◌, ◌*◌, ◌<◌, ◌≤◌, Bool, true, false, List, length, get_or, Ok, Err, sym, refl, ap, ◌∙◌, subst, inl, inr, add-one, arith}
+use Rattle.std.proofs.Common.{◌≡◌, ℕ, suc, ◌+◌, ◌*◌, ◌<◌, ◌≤◌, true, false, List, length, get_or, Ok, Err, sym, refl, ap, ◌∙◌, subst, inl, inr, add-one, arith}
 use Rattle.std.proofs.lemmas.Bool.{cases_lt, false≢true}
 use Rattle.label.specs.Group.{Group}
 use Rattle.label.specs.Order.{Order}
-use Rattle.mesh.specs.Net.{Net}
 use Rattle.mesh.specs.Drawn.{Drawn}
 use Rattle.net.specs.Model.{net_of}
-use Rattle.net.specs.Verdict.{NoneOf, First, here, later}
+use Rattle.net.specs.Verdict.{First, here, later}
 use Rattle.net.specs.declared.records.Line.{Line}
 use Rattle.net.specs.declared.drafts.Draft.{Draft}
 use Rattle.growth.specs.Entry.{Entry}

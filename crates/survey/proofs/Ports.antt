@@ -1,5 +1,5 @@
 -- Steps that note where the ports of a junction lead.
-use Rattle.std.proofs.Common.{◌≡◌, ℕ, ◌+◌, ◌<◌, ◌≤◌, eqb, List, [], ◌∷◌, ◌++◌, map, length, get_or, take, drop, Ok, Err, Result, sym, refl, ap, ◌∙◌, subst}
+use Rattle.std.proofs.Common.{◌≡◌, ℕ, ◌+◌, ◌<◌, ◌≤◌, eqb, List, map, length, get_or, take, drop, Ok, Err, Result, subst}
 use Rattle.label.specs.Group.{Group}
 use Rattle.label.specs.Order.{Order}
 use Rattle.mesh.specs.Net as mesh

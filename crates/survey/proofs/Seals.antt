@@ -1,5 +1,5 @@
 -- A sealed survey: the homes of the nodes in the first records.
-use Rattle.std.proofs.Common.{◌≡◌, ℕ, zero, suc, ◌+◌, ◌*◌, ◌<◌, ◌≤◌, List, [], ◌∷◌, ◌++◌, map, length, get_or, take, set, Some, sym, refl, ap, ◌∙◌, subst, arith}
+use Rattle.std.proofs.Common.{◌≡◌, ℕ, zero, suc, ◌+◌, ◌<◌, ◌≤◌, List, [], ◌∷◌, ◌++◌, map, length, take, set, Some, sym, ap, ◌∙◌, subst, arith}
 use Rattle.std.specs.List.{range_with_len, slice_get}
 use Rattle.std.proofs.lemmas.List.{take_more_set, map_push}
 use Rattle.std.proofs.lemmas.List.FromFn.{map-range_with_len_more}
@@ -15,7 +15,7 @@ use Rattle.growth.specs.Surveyed.{Surveyed}
 use Rattle.growth.proofs.Growths.{sealed}
 use Rattle.survey.specs.Found.{entry_of, sight_of, found}
 use Rattle.survey.specs.Searching.{Comes, begins, Searchable}
-use Rattle.survey.specs.Owns.{Owns, mark_of}
+use Rattle.survey.specs.Owns.{mark_of}
 use Rattle.survey.specs.Clauses.{Sealed}
 use Rattle.survey.specs.declared.records.Record.{Record}
 use Rattle.survey.specs.declared.surveys.Survey.{Survey}

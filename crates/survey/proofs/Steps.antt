@@ -1,11 +1,10 @@
 -- Steps that add to the found list, one after another.
-use Rattle.std.proofs.Common.{◌≡◌, ℕ, ◌≤◌, List, [], ◌∷◌, ◌++◌, length, Ok, Err, Result, sym, refl, ap, ◌∙◌, subst, arith}
+use Rattle.std.proofs.Common.{◌≡◌, ℕ, ◌≤◌, List, [], ◌++◌, length, Ok, Err, Result, refl, ◌∙◌, subst, arith}
 use Rattle.label.specs.Order.{Order}
-use Rattle.growth.specs.Entry.{Sight, Entry}
+use Rattle.growth.specs.Entry.{Sight}
 use Rattle.growth.specs.Noted.{Noted, Overfull}
 use Rattle.growth.proofs.Notes.{noted_none, noted_join, overfull_left, overfull_right}
 use Rattle.survey.specs.Found.{found}
-use Rattle.survey.specs.Searching.{Searchable}
 use Rattle.survey.specs.Stepping.{Kept, Stepped, Enlarged, Sized}
 use Rattle.survey.specs.declared.records.Record.{Record}
 use Rattle.survey.specs.declared.asked.Exhausted.{Exhausted}

@@ -1,23 +1,22 @@
 -- A round of growth, node by node.
-use Rattle.std.proofs.Common.{◌≡◌, ℕ, suc, ◌+◌, ◌*◌, ◌<◌, ◌≤◌, ◌≢◌, List, length, get_or, set, Ok, Err, sym, refl, ap, ◌∙◌, subst, inl, inr, add-one, arith}
+use Rattle.std.proofs.Common.{◌≡◌, ℕ, suc, ◌+◌, ◌*◌, ◌<◌, ◌≤◌, ◌≢◌, List, length, get_or, set, Ok, Err, sym, ap, ◌∙◌, subst, inl, inr, add-one, arith}
 use Rattle.std.specs.List.{between}
 use Rattle.std.proofs.lemmas.List.{length-set, get_or-set_same, get_or-set_other}
 use Rattle.std.proofs.lemmas.Bool.{cases_lt}
 use Rattle.label.specs.Group.{Group}
 use Rattle.label.specs.Order.{Order}
-use Rattle.mesh.specs.Net.{Net}
 use Rattle.net.specs.Model.{net_of}
 use Rattle.net.specs.declared.records.Line.{Line}
 use Rattle.growth.specs.Entry.{Entry, Sight, junctions}
 use Rattle.growth.specs.Noted.{Noted, Overfull}
-use Rattle.growth.specs.Surveyed.{Growing, targets}
+use Rattle.growth.specs.Surveyed.{targets}
 use Rattle.growth.proofs.Parts.{between_front}
 use Rattle.growth.proofs.Growths.{growing_none, growing_more}
 use Rattle.survey.specs.Found.{found}
 use Rattle.survey.specs.Searching.{Searchable}
-use Rattle.survey.specs.Stepping.{Kept, Stepped}
+use Rattle.survey.specs.Stepping.{Stepped}
 use Rattle.survey.specs.Owns.{mark_of}
-use Rattle.survey.specs.Unfolding.{Unfolded, RanOut, UnfoldClause}
+use Rattle.survey.specs.Unfolding.{Unfolded, UnfoldClause}
 use Rattle.survey.specs.declared.records.Record.{Record}
 use Rattle.survey.specs.declared.asked.Exhausted.{Exhausted}
 use Rattle.survey.specs.declared.surveys.Survey.{Survey}

@@ -1,11 +1,11 @@
 -- The search tree in the records of a pool: which records a search comes to. Assumes nothing.
-use Rattle.std.specs.Prelude.{◌≡◌, ℕ, ◌<◌, ◌≤◌, Bool, true, false, List, length, Some}
+use Rattle.std.specs.Prelude.{◌≡◌, ℕ, ◌<◌, List, Some}
 use Rattle.std.specs.declared.cmp.Ordering.TheVariants.{Less, Greater}
 use Rattle.std.specs.List.{slice_get}
 use Rattle.label.specs.Order.{Order}
-use Rattle.growth.specs.Entry.{Sight, sights}
+use Rattle.growth.specs.Entry.{Sight}
 use Rattle.growth.specs.SightOrder.{sight_order}
-use Rattle.survey.specs.Found.{sight_of, found}
+use Rattle.survey.specs.Found.{sight_of}
 use Rattle.survey.specs.declared.records.Record.{Record}
 
 -- a link from the record i counts only if it leads to a later record in use

@@ -1,4 +1,4 @@
-use Rattle.std.proofs.Common.{◌≡◌, ℕ, ◌<◌, length, ap, subst, arith}
+use Rattle.std.proofs.Common.{◌≡◌, ℕ, ◌<◌, length, subst, arith}
 use Rattle.mesh.specs.Drawn.{PortTaken}
 use Rattle.mesh.specs.Ports.{ahead}
 use Rattle.net.specs.Model.{line_of, lines_of}

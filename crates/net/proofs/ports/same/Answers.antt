@@ -1,4 +1,4 @@
-use Rattle.std.proofs.Common.{◌≡◌, sym, ap, ◌∙◌, rules}
+use Rattle.std.proofs.Common.{sym, ap, ◌∙◌}
 use Rattle.net.proofs.ports.same.Goals as goal
 
 pub returns-in-Equal : goal.returns-in-Equal

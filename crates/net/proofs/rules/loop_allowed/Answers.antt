@@ -1,4 +1,4 @@
-use Rattle.std.proofs.Common.{◌≡◌, sym, ◌∙◌}
+use Rattle.std.proofs.Common.{sym, ◌∙◌}
 use Rattle.net.specs.Verdict.{here, later}
 use Rattle.net.proofs.rules.loop_allowed.Goals as goal
 

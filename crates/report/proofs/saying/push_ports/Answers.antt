@@ -1,4 +1,4 @@
-use Rattle.std.proofs.Common.{◌≡◌, ℕ, length, string_bytes, sym, ap, ◌∙◌, arith}
+use Rattle.std.proofs.Common.{length, string_bytes, ◌∙◌, arith}
 use Rattle.mesh.specs.Ports.{ports}
 use Rattle.net.specs.Model.{net_of}
 use Rattle.report.proofs.Sayings.{ports_more, ports_told}

@@ -1,6 +1,4 @@
-use Rattle.std.proofs.Common.{◌≡◌, Some, sym, ◌∙◌, subst}
-use Rattle.label.specs.declared.written.Slot.{Slot}
-use Rattle.sheet.specs.Reading.{SlotClause}
+use Rattle.std.proofs.Common.{sym}
 use Rattle.sheet.proofs.Slots.{nth_within, storable_at}
 use Rattle.sheet.proofs.labels.label_number_at.Goals as goal
 

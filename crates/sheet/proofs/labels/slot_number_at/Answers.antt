@@ -1,4 +1,4 @@
-use Rattle.std.proofs.Common.{◌≡◌, ◌⊎◌, ◌<ℤ◌, inl, inr, arith}
+use Rattle.std.proofs.Common.{◌⊎◌, ◌<ℤ◌, inl, inr, arith}
 use Rattle.std.proofs.lemmas.Result.{err_from_is_err_and}
 use Rattle.std.proofs.lemmas.Int.{ints}
 use Rattle.sheet.specs.Reading.{unread, outside}

@@ -1,12 +1,8 @@
-use Rattle.std.proofs.Common.{◌≡◌, ℕ, ◌+◌, ◌≤◌, List, [], ◌∷◌, ◌++◌, length, drop, sym, ap, ◌∙◌, subst, arith, length-append}
+use Rattle.std.proofs.Common.{◌≡◌, ℕ, ◌+◌, [], ◌∷◌, length, drop, ap, ◌∙◌, subst, arith, length-append}
 use Rattle.std.proofs.lemmas.Result.{err_from_is_err_and}
-use Rattle.label.specs.Form.{Form}
-use Rattle.sheet.specs.Stored.{stored, text}
+use Rattle.sheet.specs.Stored.{text}
 use Rattle.sheet.specs.Codes.{codes}
-use Rattle.sheet.specs.Faults.{Unreadable, NoLabel, NoLine, no_tail, no_head, no_label}
-use Rattle.sheet.specs.Reading.{NumberAt, NumbersAt}
-use Rattle.sheet.specs.declared.faults.Placed.{Placed}
-use Rattle.sheet.specs.declared.faults.BytesFault.{BytesFault}
+use Rattle.sheet.specs.Faults.{Unreadable, NoLabel, no_tail, no_head, no_label}
 use Rattle.sheet.proofs.Places.{numbers_one, numbers_more, text_append}
 use Rattle.sheet.proofs.lines.line_at.Goals as goal
 

@@ -1,9 +1,6 @@
-use Rattle.std.proofs.Common.{◌≡◌, ℕ, List, [], sym, refl, subst, arith}
+use Rattle.std.proofs.Common.{[], refl, arith}
 use Rattle.std.proofs.lemmas.Result.{err_from_is_err_and}
-use Rattle.net.specs.declared.records.Line.{Line}
 use Rattle.sheet.specs.Faults as faults
-use Rattle.sheet.specs.Clauses.{WasRefused}
-use Rattle.sheet.specs.declared.faults.SheetFault.{SheetFault}
 use Rattle.sheet.proofs.Progress.{underway_none, underway_more, underway_refused, underway_left, underway_done}
 use Rattle.sheet.proofs.reading.read.Goals as goal
 

@@ -1,4 +1,3 @@
-use Rattle.std.proofs.Common.{refl}
 use Rattle.growth.specs.Entry.{about}
 use Rattle.survey.specs.Found.{junction_of}
 use Rattle.survey.specs.Searching.{begins, goes}

@@ -2,7 +2,7 @@ use Rattle.std.proofs.Common.{◌<◌, true, false, length, sym, refl, arith}
 use Rattle.std.proofs.lemmas.Option.{slice_get_read}
 use Rattle.growth.specs.Entry.{about}
 use Rattle.growth.specs.SightOrder.{sight_order}
-use Rattle.survey.specs.Found.{junction_of, sight_of}
+use Rattle.survey.specs.Found.{junction_of}
 use Rattle.survey.proofs.Searches.{turned}
 use Rattle.survey.proofs.found.turn.Goals as goal
 

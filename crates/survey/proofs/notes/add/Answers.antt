@@ -1,4 +1,4 @@
-use Rattle.std.proofs.Common.{◌≡◌, ◌<◌, List, length, set, refl, ap, arith, rules}
+use Rattle.std.proofs.Common.{◌<◌, length, set, refl, ap, arith, rules}
 use Rattle.std.proofs.lemmas.Option.{slice_get_read}
 use Rattle.survey.proofs.notes.add.Goals as goal
 

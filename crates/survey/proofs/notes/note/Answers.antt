@@ -1,4 +1,4 @@
-use Rattle.std.proofs.Common.{◌≡◌, ◌+◌, List, [], ◌∷◌, ◌++◌, length, sym, ap, ◌∙◌, subst, arith}
+use Rattle.std.proofs.Common.{List, [], ◌∷◌, ◌++◌, length, sym, ap, ◌∙◌, subst, arith}
 use Rattle.growth.specs.Entry.{Entry, about}
 use Rattle.growth.specs.Noted.{Noted}
 use Rattle.growth.proofs.Notes.{noted_there, noted_new, overfull_here}

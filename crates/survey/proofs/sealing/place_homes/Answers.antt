@@ -1,5 +1,5 @@
-use Rattle.std.proofs.Common.{◌≡◌, ◌<◌, length, ap, ◌∙◌, arith, rules}
-use Rattle.growth.specs.Entry.{Entry, about, at_distance}
+use Rattle.std.proofs.Common.{◌<◌, length, ap, ◌∙◌, arith, rules}
+use Rattle.growth.specs.Entry.{about, at_distance}
 use Rattle.mesh.specs.Junction.{spot}
 use Rattle.survey.specs.Found.{entry_of}
 use Rattle.survey.proofs.Seals.{homes_more}

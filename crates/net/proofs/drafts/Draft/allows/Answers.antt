@@ -1,9 +1,8 @@
-use Rattle.std.proofs.Common.{◌≡◌, ◌++◌, length, arith}
+use Rattle.std.proofs.Common.{◌++◌, length}
 use Rattle.std.proofs.lemmas.Result.{err_from_is_err_and}
-use Rattle.net.specs.Verdict.{NoneOf, First, Settled}
-use Rattle.net.specs.Rules.{LineBreaks, line_rules, place_rules, loop_rules, port_rules}
+use Rattle.net.specs.Rules.{LineBreaks, place_rules, loop_rules, port_rules}
 use Rattle.net.specs.Model.{line_of, net_of}
-use Rattle.net.proofs.Verdicts.{first_left, first_right, none_join, settled_right, made_always}
+use Rattle.net.proofs.Verdicts.{first_left, first_right, settled_right, made_always}
 use Rattle.net.proofs.drafts.Draft.allows.Goals as goal
 
 pub returns-in_err-has_place : goal.returns-in_err-has_place

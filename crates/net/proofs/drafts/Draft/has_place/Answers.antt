@@ -1,6 +1,5 @@
-use Rattle.std.proofs.Common.{◌≡◌, ◌≤◌, length, ◌∙◌, inl, inr, arith}
+use Rattle.std.proofs.Common.{inl, inr, arith}
 use Rattle.net.specs.Verdict.{here, later}
-use Rattle.net.specs.Model.{lines_of}
 use Rattle.net.proofs.Steps.{lines_count}
 use Rattle.net.proofs.drafts.Draft.has_place.Goals as goal
 use Rattle.net.proofs.drafts.Draft.has_place.Goals.{then-line-self-via-then-line-self, then-line-self-via-else-line-self+then-line-self-2}

@@ -1,4 +1,4 @@
-use Rattle.std.proofs.Common.{◌≡◌, inl, inr, arith}
+use Rattle.std.proofs.Common.{inl, inr, arith}
 use Rattle.mesh.proofs.Ported.{ports_count_push}
 use Rattle.net.specs.Verdict.{here, later}
 use Rattle.net.specs.Model.{line_of, lines_of}

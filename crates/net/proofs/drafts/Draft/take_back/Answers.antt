@@ -1,4 +1,4 @@
-use Rattle.std.proofs.Common.{◌≡◌, refl, ◌∙◌, arith}
+use Rattle.std.proofs.Common.{refl, arith}
 use Rattle.net.specs.Verdict.{here, later}
 use Rattle.net.proofs.Steps.{lines_count}
 use Rattle.net.proofs.Drawings.{line_taken_back}

@@ -1,4 +1,3 @@
-use Rattle.std.proofs.Common.{◌≡◌, refl, ap, arith}
 use Rattle.std.proofs.lemmas.Result.{err_from_is_err_and}
 use Rattle.survey.proofs.Answers.{span_size, span_count}
 use Rattle.survey.proofs.surveys.Survey.count.Goals as goal

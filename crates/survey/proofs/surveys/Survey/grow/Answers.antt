@@ -1,4 +1,4 @@
-use Rattle.std.proofs.Common.{◌≡◌, false, refl, arith}
+use Rattle.std.proofs.Common.{refl, arith}
 use Rattle.net.specs.Verdict.{here, later}
 use Rattle.survey.specs.declared.refusals.SurveyRefusal.TheVariants as refusal
 use Rattle.survey.proofs.Lents.{lent_known}
@@ -23,22 +23,15 @@ invariant_of-self g c =
     let lent = c.if-not-is_lent.ensures in
     let u = c.in-Ok.ensures in
     let more = u.more in
-    let room = u.room in (
-      omega arith,
-      (
-        omega arith,
-        (
-          omega arith,
-          (
-            omega arith,
-            (
-              frontier_ascend g.L.Label.group g.L.Label.order g.L.Label.stands s c.args.list.now c.args.pool.now lent (omega arith) c.unfold.new.pool c.unfold.auto.pool c.in-Ok.frontier u,
-              (frontier_inside g.L.Label.group g.L.Label.order g.L.Label.stands s c.args.list.now c.args.pool.now lent (omega arith) c.unfold.new.pool c.unfold.auto.pool c.in-Ok.frontier u, tt),
-            ),
-          ),
-        ),
-      ),
-    )
+    let room = u.room in
+    record {
+      few_rounds = omega arith;
+      few_records = omega arith;
+      homes = omega arith;
+      in_room = omega arith;
+      ascend = frontier_ascend g.L.Label.group g.L.Label.order g.L.Label.stands s c.args.list.now c.args.pool.now lent (omega arith) c.unfold.new.pool c.unfold.auto.pool c.in-Ok.frontier u;
+      inside = frontier_inside g.L.Label.group g.L.Label.order g.L.Label.stands s c.args.list.now c.args.pool.now lent (omega arith) c.unfold.new.pool c.unfold.auto.pool c.in-Ok.frontier u;
+    }
 
 pub returns-in-Ok : goal.returns-in-Ok
 returns-in-Ok g c =

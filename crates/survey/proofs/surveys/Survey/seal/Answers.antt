@@ -24,25 +24,18 @@ pub invariant_of-result : goal.invariant_of-result
 invariant_of-result g c =
     let m = c.first_marks-marks.ensures in
     let long = c.place_homes.auto.pool in
-    let marks = c.first_marks-marks.result in (
-      omega arith,
-      (
-        omega arith,
-        (
-          omega arith,
-          (
-            omega arith,
-            (
-              (λ k v h l.
-                  let a = marked marks m k v v h (omega arith) (omega arith) in
-                  let b : get_or marks (25 * k + v + 1) 0 ≡ v + 1 = ap (λ (i : ℕ). get_or marks i 0) (let z : 25 * k + v + 1 ≡ v + 1 = omega arith in z) ∙ m (v + 1) (omega arith) in
-                  omega arith),
-              ((λ k v h l. let a = marked marks m k v v h (omega arith) (omega arith) in omega arith), tt),
-            ),
-          ),
-        ),
-      ),
-    )
+    let marks = c.first_marks-marks.result in
+    record {
+      few_rounds = omega arith;
+      few_records = omega arith;
+      homes = omega arith;
+      in_room = omega arith;
+      ascend = λ k v h l.
+          let a = marked marks m k v v h (omega arith) (omega arith) in
+          let b : get_or marks (25 * k + v + 1) 0 ≡ v + 1 = ap (λ (i : ℕ). get_or marks i 0) (let z : 25 * k + v + 1 ≡ v + 1 = omega arith in z) ∙ m (v + 1) (omega arith) in
+          omega arith;
+      inside = λ k v h l. let a = marked marks m k v v h (omega arith) (omega arith) in omega arith;
+    }
 
 pub returns : goal.returns
 returns g c =

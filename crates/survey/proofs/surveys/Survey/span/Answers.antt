@@ -1,4 +1,4 @@
-use Rattle.std.proofs.Common.{◌≡◌, ℕ, suc, ◌+◌, ◌*◌, ◌<◌, ◌≤◌, get_or, refl, ap, arith}
+use Rattle.std.proofs.Common.{◌≡◌, ℕ, suc, ◌+◌, ◌*◌, ◌≤◌, get_or, refl, ap, arith}
 use Rattle.net.specs.Verdict.{here, later}
 use Rattle.survey.specs.Owns.{mark_of}
 use Rattle.survey.proofs.Lents.{lent_known}
