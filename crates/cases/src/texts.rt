@@ -50,7 +50,7 @@ fn shows_labels(rt: HostRuntime) -> Result<(), Fail> {
 fn reads_hex(rt: HostRuntime) -> Result<(), Fail> {
     let heap = rt.alloc();
     let bytes = hex_bytes(heap, b"01 0A ff")?.ok_or("no bytes")?;
-    assert!(rt; bytes.as_slice() == [1, 10, 255]);
+    assert!(rt; bytes.as_slice() == [1, 10, 255].as_slice());
     assert!(rt; hex_bytes(heap, b"01 0 A")?.is_none());
     Ok(())
 }
