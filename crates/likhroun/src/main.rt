@@ -3,9 +3,9 @@
 
 mod choice;
 
-use anyhow::anyhow;
 use choice::show_any;
 use report::{Shown, hex_bytes};
+use std::process::ExitCode;
 use std::{env, fs};
 
 // The cubic net.
@@ -16,36 +16,36 @@ const USAGE: &str = "usage: likhroun [show FILE | show-hex FILE]
   show-hex FILE  the same, for a sheet as hexadecimal text, blanks between bytes allowed
   (no words)     the same, for the cubic net";
 
-// Prints what there is to say of the sheet; a refusal ends the program with an error.
-fn print_sheet(rt: &HostRuntime, bytes: &[u8]) -> anyhow::Result<()> {
+// Prints what there is to say of the sheet; a refusal ends the program with status 1.
+fn print_sheet(rt: &HostRuntime, bytes: &[u8]) -> anyhow::Result<ExitCode> {
     match show_any(rt.alloc(), bytes)? {
         Shown::Net(text) => {
             rt.println(text.as_str())?;
-            Ok(())
+            Ok(ExitCode::SUCCESS)
         }
         Shown::Refused(line) => {
             rt.println(line.as_str())?;
-            Err(anyhow!("refused"))
+            Ok(ExitCode::FAILURE)
         }
     }
 }
 
-fn print_hex(rt: &HostRuntime, text: &[u8]) -> anyhow::Result<()> {
+fn print_hex(rt: &HostRuntime, text: &[u8]) -> anyhow::Result<ExitCode> {
     match hex_bytes(rt.alloc(), text)? {
         Some(bytes) => print_sheet(rt, bytes.as_slice()),
         None => {
             rt.println("no hexadecimal text")?;
-            Err(anyhow!("no hexadecimal text"))
+            Ok(ExitCode::FAILURE)
         }
     }
 }
 
-fn usage(rt: &HostRuntime) -> anyhow::Result<()> {
+fn usage(rt: &HostRuntime) -> anyhow::Result<ExitCode> {
     rt.println(USAGE)?;
-    Err(anyhow!("usage"))
+    Ok(ExitCode::FAILURE)
 }
 
-fn run(rt: &HostRuntime, word: &str, file: &str) -> anyhow::Result<()> {
+fn run(rt: &HostRuntime, word: &str, file: &str) -> anyhow::Result<ExitCode> {
     match word {
         "show" => print_sheet(rt, fs::read(rt, file)?.as_slice()),
         "show-hex" => print_hex(rt, fs::read(rt, file)?.as_slice()),
@@ -53,7 +53,7 @@ fn run(rt: &HostRuntime, word: &str, file: &str) -> anyhow::Result<()> {
     }
 }
 
-fn main(rt: HostRuntime) -> anyhow::Result<()> {
+fn main(rt: HostRuntime) -> anyhow::Result<ExitCode> {
     let mut words = env::args(&rt)?.skip(1);
     match (words.next(), words.next(), words.next()) {
         (None, _, _) => print_sheet(&rt, &CUBIC),
