@@ -1,4 +1,4 @@
-use label::Label;
+use crate::blanks::blank;
 use lattice::Translation;
 use net::Line;
 use permutation::PackedNumber;
@@ -6,7 +6,7 @@ use sheet::{SheetKind, read};
 use std::process::Abort;
 use std::test::Fail;
 
-// A sheet, and the fault that reading it tells: number, byte place and layer.
+// A sheet, and the fault that reading it tells: number, byte place and layer, as they are told outside the kit.
 #[derive(Clone, Copy)]
 struct Case {
     bytes: &'static [u8],
@@ -146,13 +146,14 @@ const PERMUTATIONS: [Case; 3] = [
     },
 ];
 
+// Handle and list are the test's own, and stand side by side.
 fn told<K: SheetKind>(rt: &impl Abort, case: Case, list: &mut [Line<K>]) -> Result<(), Fail> {
     match read(case.bytes, list) {
         Ok(_) => Err(Fail::new("read")),
         Err(fault) => {
             assert_eq!(rt; fault.number(), case.number);
             assert_eq!(rt; fault.place(), case.place);
-            assert_eq!(rt; fault.layer(), case.layer);
+            assert_eq!(rt; fault.layer().number(), case.layer);
             Ok(())
         }
     }
@@ -169,34 +170,23 @@ fn all_told<K: SheetKind>(
     Ok(())
 }
 
+// The lists stand in the tests: an array of a type parameter is not proved to be a slice.
 #[test]
 fn translations_refused(rt: HostRuntime) -> Result<(), Fail> {
-    let mut list = [Line {
-        tail: 0,
-        head: 0,
-        label: Translation::identity(),
-    }; 96];
+    let mut list = [blank::<Translation>(); 96];
     all_told(&rt, &TRANSLATIONS, &mut list)
 }
 
 #[test]
 fn permutations_refused(rt: HostRuntime) -> Result<(), Fail> {
-    let mut list = [Line {
-        tail: 0,
-        head: 0,
-        label: PackedNumber::identity(),
-    }; 96];
+    let mut list = [blank::<PackedNumber>(); 96];
     all_told(&rt, &PERMUTATIONS, &mut list)
 }
 
 // The square net has two lines: a list of one is full.
 #[test]
 fn list_too_short(rt: HostRuntime) -> Result<(), Fail> {
-    let mut list = [Line {
-        tail: 0,
-        head: 0,
-        label: Translation::identity(),
-    }; 1];
+    let mut list = [blank::<Translation>(); 1];
     let square = Case {
         bytes: b"\x01\x01\x02\0\0\x02\0\0\0\0\0\x02\0",
         number: 20,

@@ -1,3 +1,4 @@
+use crate::blanks::blank;
 use label::{Label, Pair};
 use lattice::{Screw, Translation};
 use net::{Draft, Line};
@@ -6,18 +7,14 @@ use sheet::{read, write};
 use std::process::Abort;
 use std::test::Fail;
 
+// The cubic net, written out here too: a test over the program's own constant would not see it change.
 const CUBIC: [u8; 18] = [1, 1, 3, 0, 0, 2, 0, 0, 0, 0, 0, 2, 0, 0, 0, 0, 0, 2];
 
 // A byte that no sheet here has.
 const UNTOUCHED: u8 = 0xaa;
 
 fn untouched(out: &[u8]) -> bool {
-    for byte in out {
-        if *byte != UNTOUCHED {
-            return false;
-        }
-    }
-    true
+    out.iter().all(|byte| *byte == UNTOUCHED)
 }
 
 // Writes the cubic net into an output that was untouched: all of it or nothing, and nothing past it.
@@ -45,14 +42,11 @@ fn cubic_into(
 
 #[test]
 fn outputs_of_every_length(rt: HostRuntime) -> Result<(), Fail> {
-    let mut list = [Line {
-        tail: 0,
-        head: 0,
-        label: Translation::identity(),
-    }; 96];
+    let mut list = [blank::<Translation>(); 96];
     let Ok(draft) = read(&CUBIC, &mut list) else {
         return Err(Fail::new("refused"));
     };
+    // each length is tried: the numbers are the items
     for room in 0..20 {
         let mut out = [UNTOUCHED; 20];
         cubic_into(&rt, &draft, &list, &mut out[0..room])?;
@@ -64,11 +58,7 @@ fn outputs_of_every_length(rt: HostRuntime) -> Result<(), Fail> {
 #[test]
 fn refused_writing(rt: HostRuntime) -> Result<(), Fail> {
     let far = Translation { x: 501, y: 0, z: 0 };
-    let mut list = [Line {
-        tail: 0,
-        head: 0,
-        label: Translation::identity(),
-    }; 2];
+    let mut list = [blank::<Translation>(); 2];
     let mut out = [UNTOUCHED; 40];
     let Ok(mut draft) = Draft::open(1, &list) else {
         return Err(Fail::new("refused"));
@@ -85,27 +75,18 @@ fn refused_writing(rt: HostRuntime) -> Result<(), Fail> {
             )
             .is_ok()
     );
-    assert_eq!(rt; number(write(&draft, &list, &mut out)), 31);
-    assert_eq!(rt; number(write(&draft, &list[0..1], &mut out)), 12);
+    let whole = write(&draft, &list, &mut out);
+    assert_eq!(rt; whole.map_err(|refusal| refusal.number()), Err(31));
+    let shorter = write(&draft, &list[0..1], &mut out);
+    assert_eq!(rt; shorter.map_err(|refusal| refusal.number()), Err(12));
     assert!(rt; untouched(&out));
     Ok(())
-}
-
-fn number(answer: Result<usize, sheet::WriteRefusal>) -> u8 {
-    match answer {
-        Ok(_) => 0,
-        Err(refusal) => refusal.number(),
-    }
 }
 
 // Stored, -500 is E7 07 and 500 is E8 07.
 #[test]
 fn ends_of_the_range(rt: HostRuntime) -> Result<(), Fail> {
-    let mut list = [Line {
-        tail: 0,
-        head: 0,
-        label: Translation::identity(),
-    }; 1];
+    let mut list = [blank::<Translation>(); 1];
     let mut out = [UNTOUCHED; 10];
     let Ok(mut draft) = Draft::open(1, &list) else {
         return Err(Fail::new("refused"));
@@ -149,7 +130,7 @@ fn pair_of_pairs(rt: HostRuntime) {
     assert_eq!(rt; twice.first.first.x, 2);
     assert_eq!(rt; twice.second.x, -1);
     assert_eq!(rt;
-        <Pair<Pair<Translation, PackedNumber>, Screw> as Label>::width(),
+        <Pair<Pair<Translation, PackedNumber>, Screw> as Label>::NUMBERS,
         14
     );
     assert!(rt;

@@ -1,13 +1,10 @@
 -- Translations with small numbers: those with a written form, and those of the cubic lattice. Assumes nothing.
-use Rattle.std.proofs.Common.{◌≡◌, ℕ, zero, suc, ◌^◌, ◌≤◌, Bool, true, false, ◌&&◌, leb, List, ℤ, pos, negsuc, ◌+ℤ◌, nat_abs, Some, Option, sym, refl, ap, ◌∙◌, subst, inl, inr, arith, lit<, lit≤, w32, SFits}
-use Rattle.std.specs.Bool.{then_some}
+use Rattle.std.proofs.Common.{◌≡◌, ℕ, zero, suc, ◌^◌, ◌≤◌, ℤ, pos, ◌+ℤ◌, nat_abs, sym, refl, ap, ◌∙◌, subst, inl, inr, arith, lit<, lit≤, w32, SFits}
 use Rattle.std.specs.Int.{int_wrap}
 use Rattle.std.proofs.lemmas.Int.{ints, int_wrap_fits}
-use Rattle.std.proofs.lemmas.Bool.{leb-true, and_parts}
 use Rattle.label.specs.Group.{both}
-use Rattle.label.specs.Form.{inside, fit}
 use Rattle.lattice.specs.Coord.{Coord, coord, coord_is}
-use Rattle.lattice.specs.Triples.{Triple, numbers, coord_slot, triple_slots, triple_form, triple_made}
+use Rattle.lattice.specs.Triples.{Triple}
 use Rattle.mesh.specs.Net.{Line}
 use Rattle.mesh.specs.Junction.{Junction, spot}
 use Rattle.mesh.specs.Link.{Link, forward}
@@ -18,25 +15,6 @@ use Rattle.cover.specs.Whole.{Whole, whole}
 use Rattle.cover.specs.WholeNet.{whole_line, whole_net}
 use Rattle.cover.specs.Cubic.{loop, cubic}
 use Rattle.cover.specs.CubicLaws.{CubicLaws}
-
-inside_small : (z : ℤ) → inside coord_slot z ≡ true → nat_abs z ≤ 500
-inside_small (pos n) e = let h = leb-true n 500 e in omega arith
-inside_small (negsuc n) e = let h = leb-true n 499 (and_parts (leb n 499) true e).0 in omega arith
-
-told : {A : Type 0} (b : Bool) (a c : A) → ◌≡◌ {A = Option A} (then_some b a) (Some c) → b ≡ true
-told true a c e = refl
-told false a c e = absurd (let z : ◌≡◌ {A = ℕ} 0 1 = cc in omega arith)
-
-pub written_small : (t : Triple) (xs : List ℤ) → (triple_form triple_made).tells t ≡ Some xs → Small 500 t
-written_small t xs e =
-    let f = told (fit triple_slots (numbers t)) (numbers t) xs e in
-    let a = t.0.0 in
-    let b = t.1.0.0 in
-    let c = t.1.1.0 in
-    let p = and_parts (inside coord_slot a) (inside coord_slot b && (inside coord_slot c && true)) f in
-    let q = and_parts (inside coord_slot b) (inside coord_slot c && true) p.1 in
-    let r = and_parts (inside coord_slot c) true q.1 in
-    record { first = inside_small a p.0; second = inside_small b q.0; third = inside_small c r.0 }
 
 none : nat_abs (int_wrap w32 (pos 0)) ≤ 500
 none = subst (λ z. nat_abs z ≤ 500) (sym (int_wrap_fits w32 (pos 0) (record { sfits = lit< tt }))) (lit≤ tt)

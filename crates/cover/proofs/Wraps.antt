@@ -3,7 +3,7 @@ use Rattle.std.proofs.Common.{◌≡◌, ℕ, ◌+◌, ◌*◌, ◌^◌, ◌<◌
 use Rattle.std.proofs.lemmas.List.{map-append}
 use Rattle.label.specs.Group.{both}
 use Rattle.lattice.specs.Coord.{add_coord, coord_back}
-use Rattle.lattice.specs.Groups.{only_inv}
+use Rattle.label.specs.Groups.{only_inv}
 use Rattle.lattice.specs.Triples.{Triple}
 use Rattle.mesh.specs.Net.{Line, Net}
 use Rattle.mesh.specs.Junction.{spot, home}

@@ -1,2 +1,1 @@
-pub mod Integers
 pub mod Seams

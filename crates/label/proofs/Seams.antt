@@ -10,7 +10,6 @@ use Rattle.label.specs.Group.{both}
 use Rattle.label.specs.Form.{Form, fit, in_range}
 use Rattle.label.specs.Fits.{fit_length, told_length}
 use Rattle.label.specs.Clauses.{ReadAs, ReadClause, written_at}
-use Rattle.label.specs.PairCount.{pair_count}
 use Rattle.label.specs.PairForm.{with_both, with_both_is, beside, roomy, pair_slots, pair_able, pair_in_range, pair_form, pair_tells, front, rest}
 use Rattle.label.specs.PairReading.{joined_reading}
 
@@ -21,25 +20,6 @@ nth_beyond xs ys i h =
     ap (slice_get (xs ++ ys)) e ∙ nth_right xs ys (i - length xs)
 
 module _ {A B : Type 0} (F : Form A) (G : Form B) where
-  -- the count of a pair is that of its slots
-  pub count_is : {a b : ℕ} → a ≡ length F.slots → b ≡ length G.slots → pair_count a b ≡ length (pair_slots F G)
-  count_is p q =
-      rw (p, q) (elim (cases_Bool (roomy F G)) [ inl e ↦ rw (e, length-append F.slots G.slots) | inr e ↦ rw e ])
-
-  -- a pair that has a place has the slots of both parts
-  slots_within : (i : ℕ) → i < length (pair_slots F G) → pair_slots F G ≡ F.slots ++ G.slots
-  slots_within i h =
-      elim (cases_Bool (roomy F G)) [
-        | inl e ↦ rw e
-        | inr e ↦ let z : i < 0 = rw e at h in absurd (omega arith)
-      ]
-
-  pub slot_first : (i : ℕ) → i < length (pair_slots F G) → i < length F.slots → slice_get (pair_slots F G) i ≡ slice_get F.slots i
-  slot_first i h l = ap (λ ss. slice_get ss i) (slots_within i h) ∙ nth_left F.slots G.slots i l
-
-  pub slot_second : (i : ℕ) → i < length (pair_slots F G) → length F.slots ≤ i → slice_get (pair_slots F G) i ≡ slice_get G.slots (i - length F.slots)
-  slot_second i h l = ap (λ ss. slice_get ss i) (slots_within i h) ∙ nth_beyond F.slots G.slots i l
-
   -- numbers in range are as many as the parts have, and not too many
   pub in_range_counts : (xs : List ℤ) → in_range (pair_form F G) xs ≡ true → (roomy F G ≡ true) × (length xs ≡ length F.slots + length G.slots)
   in_range_counts xs h =

@@ -1,13 +1,10 @@
 -- Slots in two runs, one after the other: what fits them, and what a sheet can store of them. Assumes nothing.
 use Rattle.std.specs.Prelude.{◌≡◌, suc, Bool, true, false, ◌&&◌, List, [], ◌∷◌, ◌++◌, length, take, drop, ℤ, Some, int_le, refl}
-use Rattle.std.proofs.Common.{ap, ◌∙◌}
+use Rattle.std.proofs.Common.{sym, ap, ◌∙◌}
+use Rattle.std.proofs.Math.Bool.{and_assoc}
 use Rattle.std.proofs.lemmas.Bool.{and_parts, both_ways}
 use Rattle.label.specs.declared.written.Slot.{Slot}
 use Rattle.label.specs.Form.{Form, inside, fit, storable, least_stored, most_stored}
-
-pub and_regroup : (p q r : Bool) → (p && (q && r)) ≡ ((p && q) && r)
-and_regroup true q r = refl
-and_regroup false q r = refl
 
 -- as many numbers fit as there are slots
 pub fit_length : (ss : List Slot) (xs : List ℤ) → fit ss xs ≡ true → length xs ≡ length ss
@@ -25,10 +22,10 @@ pub fit_append : (ss ts : List Slot) (xs : List ℤ) → fit (ss ++ ts) xs ≡ (
 fit_append [] ts xs = refl
 fit_append (s ∷ ss) ts [] = refl
 fit_append (s ∷ ss) ts (x ∷ xs) =
-    ap (λ (b : Bool). inside s x && b) (fit_append ss ts xs) ∙ and_regroup (inside s x) (fit ss (take (length ss) xs)) (fit ts (drop (length ss) xs))
+    ap (λ (b : Bool). inside s x && b) (fit_append ss ts xs) ∙ sym (and_assoc (inside s x) (fit ss (take (length ss) xs)) (fit ts (drop (length ss) xs)))
 
 pub storable_append : (ss ts : List Slot) → storable (ss ++ ts) ≡ (storable ss && storable ts)
 storable_append [] ts = refl
 storable_append (s ∷ ss) ts =
     let here : Bool = int_le (least_stored s.storage) s.least && int_le s.most (most_stored s.storage) in
-    ap (λ (b : Bool). here && b) (storable_append ss ts) ∙ and_regroup here (storable ss) (storable ts)
+    ap (λ (b : Bool). here && b) (storable_append ss ts) ∙ sym (and_assoc here (storable ss) (storable ts))

@@ -1,6 +1,5 @@
 pub mod Group
 pub mod Order
-pub mod Integers
 pub mod Form
 pub mod Fits
 pub mod PairCount
@@ -9,3 +8,5 @@ pub mod PairReading
 pub mod Clauses
 pub mod Numbers
 pub mod NumberOrder
+pub mod PairText
+pub mod Groups

@@ -4,6 +4,7 @@ use Rattle.std.specs.declared.cmp.Ordering.TheVariants.{Less, Equal, Greater}
 use Rattle.std.specs.declared.cmp.Ordering.{Ordering}
 use Rattle.std.proofs.Common.{sym, ap, ◌∙◌, subst, inl, inr, arith}
 use Rattle.std.specs.Ordering.{ordering_reverse, ordering_then}
+use Rattle.std.specs.Cmp.{IsTotalOrder}
 use Rattle.label.specs.Group.{both}
 
 -- a comparison that is a total order, and says `Equal` exactly of equal elements
@@ -22,6 +23,21 @@ apart_ge e = let z : ◌≡◌ {A = ℕ} 0 1 = cc in omega arith
 
 apart_gl : Greater ≡ Less → ⊥
 apart_gl e = let z : ◌≡◌ {A = ℕ} 0 1 = cc in omega arith
+
+pub own_reverse : (j : Ordering) → j ≡ ordering_reverse j → j ≡ Equal
+own_reverse Less e = absurd (apart_gl (sym e))
+own_reverse Equal e = refl
+own_reverse Greater e = absurd (apart_gl e)
+
+-- a total order of the library whose `Equal` is said exactly of equal elements
+abbrev pub total_order : {M : Type 0} (cmp : M → M → Ordering) → IsTotalOrder cmp → ((x y : M) → cmp x y ≡ Equal → x ≡ y) → Order M
+total_order c laws same = record {
+  cmp = c;
+  itself = λ x. own_reverse (c x x) (laws.antisymm x x);
+  same = same;
+  turned = λ x y. laws.antisymm y x;
+  chain = laws.trans;
+}
 
 then_equal : (j k : Ordering) → ordering_then j k ≡ Equal → (j ≡ Equal) × (k ≡ Equal)
 then_equal Less k e = absurd (apart_le e)

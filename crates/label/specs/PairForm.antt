@@ -1,10 +1,11 @@
 -- The written form of a pair: the first part's numbers, then the second's, where together they are at most 4,095. Assumes nothing.
-use Rattle.std.specs.Prelude.{◌≡◌, ℕ, ◌≤◌, Bool, true, false, cond, ◌&&◌, List, [], ◌++◌, length, take, drop, ℤ, Some, None, Option, ◌≢◌, refl}
+use Rattle.std.specs.Prelude.{◌≡◌, ℕ, ◌≤◌, Bool, true, false, cond, ◌&&◌, List, [], ◌++◌, length, take, drop, ℤ, Some, None, Option, refl}
 use Rattle.std.proofs.Common.{sym, ap, ◌∙◌, inl, inr, arith, length-append, take-append-drop, take_at, drop_at}
+use Rattle.std.proofs.lemmas.Option.{none-some}
 use Rattle.std.proofs.lemmas.Bool.{and_parts, and_from, leb-true, cases_Bool}
 use Rattle.label.specs.declared.written.Slot.{Slot}
 use Rattle.label.specs.Form.{Form, fit, storable, in_range}
-use Rattle.label.specs.PairCount.{few_enough}
+use Rattle.label.specs.PairCount.{few_enough, pair_count}
 use Rattle.label.specs.Fits.{told_length, fit_append, storable_append}
 
 -- what two things make together, where both are there
@@ -21,12 +22,9 @@ pub record Made {A B C : Type 0} (f : A → B → C) (o : Option A) (p : Option 
   pub second : p ≡ Some two
   pub makes : f one two ≡ c
 
-some_apart : {A : Type 0} (a : A) → None ≢ Some a
-some_apart a e = let z : ◌≡◌ {A = ℕ} 0 1 = cc in omega arith
-
 pub with_both_made : {A B C : Type 0} (f : A → B → C) (o : Option A) (p : Option B) (c : C) → with_both f o p ≡ Some c → Made f o p c
-with_both_made f None p c e = absurd (some_apart c e)
-with_both_made f (Some a) None c e = absurd (some_apart c e)
+with_both_made f None p c e = absurd (none-some c e)
+with_both_made f (Some a) None c e = absurd (none-some c e)
 with_both_made f (Some a) (Some b) c e = record { one = a; two = b; first = refl; second = refl; makes = cc }
 
 pub with_both_is : {A B C : Type 0} (f : A → B → C) {o : Option A} {p : Option B} (a : A) (b : B) → o ≡ Some a → p ≡ Some b → with_both f o p ≡ Some (f a b)
@@ -95,7 +93,7 @@ module _ {A B : Type 0} (F : Form A) (G : Form B) where
       rw r (with_both_is ◌++◌ (front xs) (rest xs) t u ∙ ap Some (take-append-drop (length F.slots) xs))
 
   told_roomy : (m : A × B) (xs : List ℤ) → pair_tells m ≡ Some xs → roomy ≡ true
-  told_roomy m xs e = elim (cases_Bool roomy) [ inl r ↦ r | inr r ↦ absurd (some_apart xs (rw r at e)) ]
+  told_roomy m xs e = elim (cases_Bool roomy) [ inl r ↦ r | inr r ↦ absurd (none-some xs (rw r at e)) ]
 
   pub pair_back : (m : A × B) (xs : List ℤ) → pair_tells m ≡ Some xs → ((pair_able && fit pair_slots xs) ≡ true) × (pair_means xs ≡ Some m)
   pair_back m xs e =
@@ -122,3 +120,8 @@ pair_form F G = record {
   again = pair_again F G;
   back = pair_back F G;
 }
+
+-- a pair has as many slots as its parts together, or none where those are too many
+pub pair_counted : {A B : Type 0} (F : Form A) (G : Form B) {a b : ℕ} → a ≡ length F.slots → b ≡ length G.slots → pair_count a b ≡ length (pair_form F G).slots
+pair_counted F G p q =
+    rw (p, q) (elim (cases_Bool (roomy F G)) [ inl e ↦ rw (e, length-append F.slots G.slots) | inr e ↦ rw e ])

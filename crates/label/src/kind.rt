@@ -1,4 +1,4 @@
-ghost use Rattle.std.specs.Prelude.{◌≡◌, length};
+ghost use Rattle.std.specs.Prelude.{◌≡◌, ℕ, length};
 ghost use Rattle.std.specs.List.{slice_get};
 ghost use Rattle.label.specs.Group.{Group};
 ghost use Rattle.label.specs.Order.{Order};
@@ -14,6 +14,8 @@ use std::cmp::Ordering;
 pub trait Label: Copy {
     // How many numbers the written form has.
     const NUMBERS: usize;
+
+    ghost NUMBERS: { ℕ };
 
     ghost Meaning: { Type 0 };
 
@@ -37,10 +39,6 @@ pub trait Label: Copy {
     fn compare(self, other: Self) -> Ordering
         ensures { result ≡ order.cmp (stands self) (stands other) };
 
-    // How many numbers the written form has: the constant, as contracts can cite it.
-    fn width() -> usize
-        ensures { result ≡ length form.slots };
-
     // How the number at a place of the written form is stored, and its range; none past the end.
     fn slot(at: usize) -> Option<Slot>
         ensures { result ≡ slice_get form.slots at };
@@ -52,4 +50,7 @@ pub trait Label: Copy {
     // The number at a place of the label's written form; none past the end.
     fn written(self, at: usize) -> Result<Option<i32>, NoWrittenForm>
         ensures { result ≡ written_at (form.tells (stands self)) at };
+
+    // The constant is the number of slots.
+    ghost counted: { NUMBERS ≡ length form.slots };
 }

@@ -7,6 +7,6 @@ mod refusals;
 mod written;
 
 pub use kind::Label;
-pub use pairs::Pair;
+pub use pairs::{MOST_NUMBERS, Pair};
 pub use refusals::{LabelFault, NoWrittenForm};
 pub use written::{Slot, Storage};

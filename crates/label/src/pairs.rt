@@ -2,13 +2,15 @@ ghost use Rattle.std.specs.Prelude.{◌≡◌};
 ghost use Rattle.label.specs.Group.{pair_group};
 ghost use Rattle.label.specs.Order.{pair_order};
 ghost use Rattle.label.specs.PairCount.{few_enough, pair_count};
-ghost use Rattle.label.specs.PairForm.{pair_form};
+ghost use Rattle.label.specs.PairForm.{pair_form, pair_counted};
 ghost use Rattle.label.specs.PairReading.{joined_reading};
+ghost use Rattle.label.specs.PairText.{both_texts};
 
 use crate::kind::Label;
 use crate::refusals::{LabelFault, NoWrittenForm};
 use crate::written::Slot;
 use std::cmp::Ordering;
+use std::fmt;
 
 // A label of one kind beside a label of another. Every function works part by part,
 // the order by the first part first.
@@ -19,7 +21,7 @@ pub struct Pair<A, B> {
 }
 
 // The most numbers that a written form has.
-const MOST_NUMBERS: usize = 4095;
+pub const MOST_NUMBERS: usize = 4095;
 
 // Whether two parts with so many numbers have few enough together.
 const fn few_together(a: usize, b: usize) -> bool
@@ -29,6 +31,7 @@ const fn few_together(a: usize, b: usize) -> bool
 }
 
 // How many numbers a pair has whose parts have so many: 0 where those are too many together.
+// A number and no Option, for the constant NUMBERS of a kind is a number, and a constant cannot refuse.
 const fn pair_numbers(a: usize, b: usize) -> usize
     ensures { result ≡ pair_count a b }
 {
@@ -44,15 +47,17 @@ fn joined<A: Copy, B: Copy>(
 {
     match (first, second) {
         (Ok(first), Ok(second)) => Ok(Pair { first, second }),
-        (Ok(_), Err(fault)) => Err(fault),
-        (Err(fault), Ok(_)) => Err(fault),
-        (Err(LabelFault::OutOfRange), Err(_)) => Err(LabelFault::OutOfRange),
-        (Err(LabelFault::NoPermutation), Err(fault)) => Err(fault),
+        (Err(LabelFault::OutOfRange), _) | (_, Err(LabelFault::OutOfRange)) => {
+            Err(LabelFault::OutOfRange)
+        }
+        _ => Err(LabelFault::NoPermutation),
     }
 }
 
 impl<A: Label, B: Label> Label for Pair<A, B> {
     const NUMBERS: usize = pair_numbers(A::NUMBERS, B::NUMBERS);
+
+    ghost NUMBERS = { pair_count A.Label.NUMBERS B.Label.NUMBERS };
 
     ghost Meaning = { A.Label.Meaning × B.Label.Meaning };
 
@@ -63,6 +68,8 @@ impl<A: Label, B: Label> Label for Pair<A, B> {
     ghost form = { pair_form A.Label.form B.Label.form };
 
     ghost stands = { λ p. (A.Label.stands p.first, B.Label.stands p.second) };
+
+    ghost counted = { pair_counted A.Label.form B.Label.form A.Label.counted B.Label.counted };
 
     fn identity() -> Self {
         Pair {
@@ -87,46 +94,44 @@ impl<A: Label, B: Label> Label for Pair<A, B> {
 
     fn compare(self, other: Self) -> Ordering {
         let by_first = self.first.compare(other.first);
-        let by_second = self.second.compare(other.second);
-        by_first.then(by_second)
-    }
-
-    fn width() -> usize {
-        pair_numbers(A::width(), B::width())
+        by_first.then_with(|| self.second.compare(other.second))
     }
 
     fn slot(at: usize) -> Option<Slot> {
-        let a = A::width();
-        if at >= pair_numbers(a, B::width()) {
+        if at >= Self::NUMBERS {
             None
-        } else if at < a {
+        } else if at < A::NUMBERS {
             A::slot(at)
         } else {
-            B::slot(at - a)
+            B::slot(at - A::NUMBERS)
         }
     }
 
     fn read(numbers: &[i32]) -> Result<Self, LabelFault> {
-        let a = A::width();
-        let b = B::width();
-        if !few_together(a, b) || numbers.len() != a + b {
+        if !few_together(A::NUMBERS, B::NUMBERS) || numbers.len() != Self::NUMBERS {
             return Err(LabelFault::OutOfRange);
         }
-        joined(A::read(&numbers[0..a]), B::read(&numbers[a..]))
+        let (first, second) = numbers.split_at(A::NUMBERS);
+        joined(A::read(first), B::read(second))
     }
 
     // The part that the place is not in is asked too: it may have no written form.
     fn written(self, at: usize) -> Result<Option<i32>, NoWrittenForm> {
-        let a = A::width();
-        if !few_together(a, B::width()) {
+        if !few_together(A::NUMBERS, B::NUMBERS) {
             return Err(NoWrittenForm);
         }
-        match (
-            self.first.written(at),
-            self.second.written(at.saturating_sub(a)),
-        ) {
-            (Ok(first), Ok(second)) => Ok(if at < a { first } else { second }),
-            _ => Err(NoWrittenForm),
-        }
+        let first = self.first.written(at)?;
+        let second = self.second.written(at.saturating_sub(A::NUMBERS))?;
+        Ok(if at < A::NUMBERS { first } else { second })
+    }
+}
+
+// The first part's text, a blank, and the second's.
+impl<A: fmt::Display, B: fmt::Display> fmt::Display for Pair<A, B> {
+    ghost output = { λ p. both_texts (A.Display.output p.first) (B.Display.output p.second) };
+
+    fn fmt<W: fmt::Write>(&self, f: &mut fmt::Formatter<W>) -> fmt::Result {
+        let Pair { first, second } = self;
+        write!(f, "{first} {second}")
     }
 }

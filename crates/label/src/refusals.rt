@@ -5,19 +5,17 @@ ghost use Rattle.label.specs.Numbers.{label_number, unwritten_number};
 #[derive(Clone, Copy, PartialEq, Eq, Debug)]
 pub enum LabelFault {
     // a number outside its range, or more or fewer numbers than the kind has
-    OutOfRange,
+    OutOfRange = 4,
     // eight images that are no permutation
-    NoPermutation,
+    NoPermutation = 5,
 }
 
 impl LabelFault {
+    // The number that the refusal has in the kit's table: outside the kit refusals are kept and told by number.
     pub fn number(self) -> u8
         ensures { result ≡ label_number self }
     {
-        match self {
-            LabelFault::OutOfRange => 4,
-            LabelFault::NoPermutation => 5,
-        }
+        self as u8
     }
 }
 
@@ -26,6 +24,7 @@ impl LabelFault {
 pub struct NoWrittenForm;
 
 impl NoWrittenForm {
+    // The number that the refusal has in the kit's table: outside the kit refusals are kept and told by number.
     pub fn number(self) -> u8
         ensures { result ≡ unwritten_number self }
     {

@@ -1,14 +1,14 @@
 -- One wrapping coordinate: the integers that 32 bits hold, added round the end. Assumes nothing.
 use Rattle.std.specs.Prelude.{◌≡◌, ℤ, pos, ◌+ℤ◌, neg_ℤ}
-use Rattle.std.proofs.Common.{sym, ap, ◌∙◌}
+use Rattle.std.proofs.Common.{sym, ap, ◌∙◌, arith, Equal}
+use Rattle.std.specs.Ordering.{int_cmp}
+use Rattle.std.specs.Cmp.{on_total, int_cmp_total}
 use mathlib.Core.HLevel.{Σ_prop_path}
 use Rattle.std.proofs.Math.IntN.{+ℤ_assoc, +ℤ_comm, +ℤ_idl, +ℤ_idr, +ℤ_invl, +ℤ_invr, ℤ_set}
 use Rattle.std.specs.Int.{int_wrap, w32}
-use Rattle.std.proofs.lemmas.Int.{int_wrap_fits, SFits-int_wrap, int_wrap-add_left, int_wrap-add_right}
+use Rattle.std.proofs.lemmas.Int.{ints, int_wrap_fits, SFits-int_wrap, int_wrap-add_left, int_wrap-add_right}
 use Rattle.label.specs.Group.{Group}
-use Rattle.label.specs.Order.{Order}
-use Rattle.label.specs.Integers.{cmp_int}
-use Rattle.label.proofs.Integers.{cmp_int_itself, cmp_int_same, cmp_int_turned, cmp_int_chain}
+use Rattle.label.specs.Order.{Order, total_order}
 
 -- an integer that 32 bits hold
 abbrev pub Coord : Type 0
@@ -74,12 +74,9 @@ coords = record {
   undone = add_neg;
 }
 
+pub int_cmp_same : (a b : ℤ) → int_cmp a b ≡ Equal → a ≡ b
+int_cmp_same a b e = grind (arith, ints)
+
 -- coordinates compare as the integers that they are
 abbrev pub coord_order : Order Coord
-coord_order = record {
-  cmp = λ x y. cmp_int x.0 y.0;
-  itself = λ x. cmp_int_itself x.0;
-  same = λ x y e. coord_same x y (cmp_int_same x.0 y.0 e);
-  turned = λ x y. cmp_int_turned x.0 y.0;
-  chain = λ x y z. cmp_int_chain x.0 y.0 z.0;
-}
+coord_order = total_order (λ x y. int_cmp x.0 y.0) (on_total (λ (x : Coord). x.0) int_cmp_total) (λ x y e. coord_same x y (int_cmp_same x.0 y.0 e))

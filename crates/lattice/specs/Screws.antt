@@ -7,7 +7,7 @@ use Rattle.std.proofs.lemmas.Int.{wrapping_add_is, of_z-to_z, SFits-int_wrap, in
 use Rattle.label.specs.Group.{Group, both, pair_group}
 use Rattle.label.specs.Order.{Order, pair_order}
 use Rattle.lattice.specs.Coord.{Coord, coord, coords, coord_order, add, add_comm, neg}
-use Rattle.lattice.specs.Groups.{inv_inv, inv_one, only_inv}
+use Rattle.label.specs.Groups.{inv_inv, inv_one, only_inv}
 use Rattle.lattice.specs.Semidirect.{Acts, semidirect}
 use Rattle.lattice.specs.Triples.{Made}
 
@@ -99,15 +99,15 @@ turns_fixed zero = refl
 turns_fixed (suc n) = ap quarter (turns_fixed n) ∙ both (inv_one coords) refl
 
 -- the turn by the coordinate that an integer wraps to
-pub turned_by : (k : ℤ) (n : ℕ) (p : Plane) → FitsSigned w32 k → quarters k ≡ n → turned (coord k) p ≡ turns n p
+pub turned_by : (k : ℤ) (p : Plane) → FitsSigned w32 k → turned (coord k) p ≡ turns (quarters k) p
 unfolding turned
-turned_by k n p f e = ap (λ (z : ℤ). turns (quarters z) p) (int_wrap_fits w32 k f) ∙ ap (λ m. turns m p) e
+turned_by k p f = ap (λ (z : ℤ). turns (quarters z) p) (int_wrap_fits w32 k f)
 
 -- climbs act on the plane by their turns
 pub turning : Acts planes coords turned
 unfolding turned
 turning = record {
-  still = λ p. turned_by (pos 0) 0 p (record { sfits = lit< tt }) refl;
+  still = λ p. turned_by (pos 0) p (record { sfits = lit< tt });
   twice = turned_twice;
   splits = λ h. turns_splits (quarters h.0);
   fixed = λ h. turns_fixed (quarters h.0);

@@ -1,10 +1,11 @@
 -- The written form of what is made of three coordinates: three numbers, each from -500 to 500. Assumes nothing.
-use Rattle.std.specs.Prelude.{◌≡◌, ℕ, Bool, true, false, ◌&&◌, List, [], ◌∷◌, ℤ, pos, negsuc, Some, None, Option, Result, MatchResult, FitsSigned, nat_le, refl}
+use Rattle.std.specs.Prelude.{◌≡◌, Bool, true, false, ◌&&◌, List, [], ◌∷◌, ℤ, pos, negsuc, Some, None, Option, Result, MatchResult, FitsSigned, nat_le, slice_index_or, refl}
 use Rattle.std.proofs.Common.{sym, ap, subst, ◌∙◌, arith, lit≤}
 use Rattle.std.specs.Int.{w32}
 use Rattle.std.specs.Option.{option_map}
 use Rattle.std.specs.Bool.{then_some}
 use Rattle.std.proofs.lemmas.Int.{int_wrap_fits}
+use Rattle.std.proofs.lemmas.Option.{none-some}
 use Rattle.std.proofs.lemmas.Bool.{leb-true, and_parts}
 use Rattle.label.specs.declared.refusals.LabelFault.{LabelFault}
 use Rattle.label.specs.declared.refusals.LabelFault.TheVariants.{OutOfRange}
@@ -20,6 +21,10 @@ Triple = Coord × (Coord × Coord)
 -- the triple of the coordinates that three integers wrap to
 abbrev pub triple : ℤ → ℤ → ℤ → Triple
 triple a b c = (coord a, (coord b, coord c))
+
+-- the triple that the first three numbers of a list wrap to
+abbrev pub triple_of : List ℤ → Triple
+triple_of xs = triple (slice_index_or xs 0 (pos 0)) (slice_index_or xs 1 (pos 0)) (slice_index_or xs 2 (pos 0))
 
 -- its three numbers
 abbrev pub numbers : Triple → List ℤ
@@ -45,8 +50,8 @@ abbrev pub triple_told : Triple → Option (List ℤ)
 triple_told t = then_some (fit triple_slots (numbers t)) (numbers t)
 
 -- the three numbers as they are read: refused unless there are three and each is in range
-abbrev pub ThreeRead : List ℤ → Result (ℤ × ℤ × ℤ) LabelFault → Type 0
-ThreeRead xs r = MatchResult r (λ t. (xs ≡ t.0 ∷ t.1 ∷ t.2 ∷ []) × (fit triple_slots xs ≡ true)) (λ e. (e ≡ OutOfRange) × (fit triple_slots xs ≡ false))
+abbrev pub ThreeRead : List ℤ → Result (List ℤ) LabelFault → Type 0
+ThreeRead xs r = MatchResult r (λ t. (t ≡ xs) × (fit triple_slots xs ≡ true)) (λ e. (e ≡ OutOfRange) × (fit triple_slots xs ≡ false))
 
 -- a number in range is one that 32 bits hold
 slot_fits : (z : ℤ) → inside coord_slot z ≡ true → FitsSigned w32 z
@@ -66,23 +71,20 @@ numbers_triple a b c e =
 triple_numbers : (t : Triple) → triple_read (numbers t) ≡ Some t
 triple_numbers t = ap Some (both (coord_back t.0) (both (coord_back t.1.0) (coord_back t.1.1)))
 
-nothing : {A : Type 0} (a : A) → ◌≡◌ {A = Option A} None (Some a) → ⊥
-nothing a e = let z : ◌≡◌ {A = ℕ} 0 1 = cc in omega arith
-
 told : {A : Type 0} (b : Bool) (a c : A) → ◌≡◌ {A = Option A} (then_some b a) (Some c) → (b ≡ true) × (a ≡ c)
 told true a c e = (refl, cc)
-told false a c e = absurd (nothing c e)
+told false a c e = absurd (none-some c e)
 
 -- what reads as a triple is written as it was
 pub triple_again : (xs : List ℤ) (t : Triple) → fit triple_slots xs ≡ true → triple_read xs ≡ Some t → triple_told t ≡ Some xs
-triple_again [] t e r = absurd (nothing t r)
-triple_again (a ∷ []) t e r = absurd (nothing t r)
-triple_again (a ∷ b ∷ []) t e r = absurd (nothing t r)
+triple_again [] t e r = absurd (none-some t r)
+triple_again (a ∷ []) t e r = absurd (none-some t r)
+triple_again (a ∷ b ∷ []) t e r = absurd (none-some t r)
 triple_again (a ∷ b ∷ c ∷ []) t e r =
     let p : triple a b c ≡ t = cc in
     let q : numbers t ≡ a ∷ b ∷ c ∷ [] = ap numbers (sym p) ∙ numbers_triple a b c e in
     ap (λ ys. then_some (fit triple_slots ys) ys) q ∙ ap (λ w. then_some w (a ∷ b ∷ c ∷ [])) e
-triple_again (a ∷ b ∷ c ∷ d ∷ xs) t e r = absurd (nothing t r)
+triple_again (a ∷ b ∷ c ∷ d ∷ xs) t e r = absurd (none-some t r)
 
 -- what is written of a triple reads as it
 pub triple_back : (t : Triple) (xs : List ℤ) → triple_told t ≡ Some xs → (fit triple_slots xs ≡ true) × (triple_read xs ≡ Some t)
@@ -99,7 +101,7 @@ pub record Made (M : Type 0) : Type 0 where
 
 module _ {M : Type 0} (made : Made M) where
   pub of_parts : (o : Option Triple) (m : M) → option_map made.whole o ≡ Some m → o ≡ Some (made.parts m)
-  of_parts None m e = absurd (nothing m e)
+  of_parts None m e = absurd (none-some m e)
   of_parts (Some t) m e = let p : made.whole t ≡ m = cc in ap Some (sym (made.parts_whole t) ∙ ap made.parts p)
 
   -- what is made of three coordinates is written as their three numbers

@@ -1,7 +1,6 @@
 // Labels made of three wrapping coordinates: translations and fourfold screws.
 #![tactic(auto)]
 
-mod coordinates;
 mod plane;
 mod screws;
 mod translations;

@@ -2,8 +2,6 @@ ghost use Rattle.std.specs.Prelude.{◌≡◌};
 ghost use Rattle.lattice.specs.Coord.{coord};
 ghost use Rattle.lattice.specs.Screws.{place, quarter, quarters, turned};
 
-use crate::coordinates::minus;
-
 // A place in the plane.
 #[derive(Clone, Copy)]
 pub(crate) struct Place {
@@ -11,13 +9,29 @@ pub(crate) struct Place {
     pub(crate) y: i32,
 }
 
-// The place turned from (x, y) to (-y, x).
-fn quarter_turn(p: Place) -> Place
-    ensures { place result.x result.y ≡ quarter (place p.x p.y) }
-{
-    Place {
-        x: minus(p.y),
-        y: p.x,
+impl Place {
+    // The place turned from (x, y) to (-y, x).
+    #[tactic(auto, using(crate::proofs::Wrapping::coord_neg))]
+    fn quarter_turn(self) -> Place
+        ensures { place result.x result.y ≡ quarter (place self.x self.y) }
+    {
+        Place {
+            x: self.y.wrapping_neg(),
+            y: self.x,
+        }
+    }
+
+    // The place after k quarter turns, of which only k modulo 4 counts.
+    #[tactic(auto, using(crate::specs::Screws::turned_by))]
+    pub(crate) fn turned(self, k: i32) -> Place
+        ensures { place result.x result.y ≡ turned (coord k) (place self.x self.y) }
+    {
+        let mut place = self;
+        // one step, done so many times: a fold over the range would say no more
+        for _ in 0..quarters_of(k) {
+            place = place.quarter_turn();
+        }
+        place
     }
 }
 
@@ -26,16 +40,4 @@ fn quarters_of(k: i32) -> u32
     ensures { result ≡ quarters k }
 {
     k.rem_euclid(4) as u32
-}
-
-// The place after k quarter turns, of which only k modulo 4 counts.
-pub(crate) fn turn(p: Place, k: i32) -> Place
-    ensures { place result.x result.y ≡ turned (coord k) (place p.x p.y) }
-{
-    match quarters_of(k) {
-        0 => p,
-        1 => quarter_turn(p),
-        2 => quarter_turn(quarter_turn(p)),
-        _ => quarter_turn(quarter_turn(quarter_turn(p))),
-    }
 }

@@ -1,13 +1,15 @@
+ghost use Rattle.std.specs.Prelude.{Some, refl};
+ghost use Rattle.lattice.specs.Texts.{translation_text};
 ghost use Rattle.lattice.specs.Translations.{translations, translation_order};
 ghost use Rattle.lattice.specs.Triples.{Triple, triple, triple_form, triple_made};
 
-use crate::coordinates::{compared, minus, plus};
 use crate::triples::{COUNT, number_at, slot_at, three_of};
 use label::{Label, LabelFault, NoWrittenForm, Slot};
 use std::cmp::Ordering;
+use std::fmt;
 
 // A shift of space: its three coordinates, added one by one, wrapping.
-#[derive(Clone, Copy, PartialEq, Eq, Debug)]
+#[derive(Clone, Copy, PartialEq, Eq, PartialOrd, Ord, Debug)]
 pub struct Translation {
     pub x: i32,
     pub y: i32,
@@ -16,6 +18,8 @@ pub struct Translation {
 
 impl Label for Translation {
     const NUMBERS: usize = COUNT;
+
+    ghost NUMBERS = { 3 };
 
     ghost Meaning = { Triple };
 
@@ -27,35 +31,33 @@ impl Label for Translation {
 
     ghost stands = { λ t. triple t.x t.y t.z };
 
+    ghost counted = { refl };
+
     fn identity() -> Translation {
         Translation { x: 0, y: 0, z: 0 }
     }
 
+    #[tactic(auto, using(crate::proofs::Wrapping::coord_sum))]
     fn product(self, other: Translation) -> Translation {
         Translation {
-            x: plus(self.x, other.x),
-            y: plus(self.y, other.y),
-            z: plus(self.z, other.z),
+            x: self.x.wrapping_add(other.x),
+            y: self.y.wrapping_add(other.y),
+            z: self.z.wrapping_add(other.z),
         }
     }
 
+    #[tactic(auto, using(crate::proofs::Wrapping::coord_neg))]
     fn inverse(self) -> Translation {
         Translation {
-            x: minus(self.x),
-            y: minus(self.y),
-            z: minus(self.z),
+            x: self.x.wrapping_neg(),
+            y: self.y.wrapping_neg(),
+            z: self.z.wrapping_neg(),
         }
     }
 
+    // These four are as short for screws: each is one call, and the kinds differ in their groups.
     fn compare(self, other: Translation) -> Ordering {
-        let first = compared(self.x, other.x);
-        let second = compared(self.y, other.y);
-        let third = compared(self.z, other.z);
-        first.then(second.then(third))
-    }
-
-    fn width() -> usize {
-        Self::NUMBERS
+        self.cmp(&other)
     }
 
     fn slot(at: usize) -> Option<Slot> {
@@ -63,11 +65,21 @@ impl Label for Translation {
     }
 
     fn read(numbers: &[i32]) -> Result<Translation, LabelFault> {
-        let (x, y, z) = three_of(numbers)?;
+        let [x, y, z] = three_of(numbers)?;
         Ok(Translation { x, y, z })
     }
 
     fn written(self, at: usize) -> Result<Option<i32>, NoWrittenForm> {
-        number_at(self.x, self.y, self.z, at)
+        number_at([self.x, self.y, self.z], at)
+    }
+}
+
+// `(1, 0, -1)`
+impl fmt::Display for Translation {
+    ghost output = { λ t. Some (translation_text t) };
+
+    fn fmt<W: fmt::Write>(&self, f: &mut fmt::Formatter<W>) -> fmt::Result {
+        let Translation { x, y, z } = *self;
+        write!(f, "({x}, {y}, {z})")
     }
 }

@@ -1,8 +1,8 @@
-ghost use Rattle.std.specs.Prelude.{◌≡◌, [], ◌∷◌};
+ghost use Rattle.std.specs.Prelude.{◌≡◌};
 ghost use Rattle.std.specs.List.{slice_get};
-ghost use Rattle.label.specs.Form.{inside, fit};
+ghost use Rattle.label.specs.Form.{fit};
 ghost use Rattle.label.specs.Clauses.{written_at};
-ghost use Rattle.lattice.specs.Triples.{coord_slot, triple_slots, triple, triple_told, ThreeRead};
+ghost use Rattle.lattice.specs.Triples.{triple_slots, triple_of, triple_told, ThreeRead};
 
 use label::{LabelFault, NoWrittenForm, Slot, Storage};
 
@@ -18,57 +18,36 @@ const MOST: i32 = 500;
 pub(crate) fn slot_at(at: usize) -> Option<Slot>
     ensures { result ≡ slice_get triple_slots at }
 {
-    if at < COUNT {
-        Some(Slot {
-            storage: Storage::Signed,
-            least: LEAST,
-            most: MOST,
-        })
-    } else {
-        None
-    }
+    (at < COUNT).then_some(Slot {
+        storage: Storage::Signed,
+        least: LEAST,
+        most: MOST,
+    })
 }
 
-fn in_range(n: i32) -> bool
-    ensures { result ≡ inside coord_slot n }
+// Whether there are three numbers, and each is in range.
+fn all_in_range(numbers: &[i32]) -> bool
+    ensures { result ≡ fit triple_slots numbers.now }
 {
-    LEAST <= n && n <= MOST
-}
-
-fn all_in_range(x: i32, y: i32, z: i32) -> bool
-    ensures { result ≡ fit triple_slots (x ∷ y ∷ z ∷ []) }
-{
-    in_range(x) && in_range(y) && in_range(z)
+    numbers.len() == COUNT && numbers.iter().all(|n| (LEAST..=MOST).contains(n))
 }
 
 // The three numbers, if there are three and each is in range.
-pub(crate) fn three_of(numbers: &[i32]) -> Result<(i32, i32, i32), LabelFault>
+pub(crate) fn three_of(numbers: &[i32]) -> Result<[i32; COUNT], LabelFault>
     ensures { ThreeRead numbers.now result }
 {
-    match numbers {
-        [x, y, z] if all_in_range(*x, *y, *z) => Ok((*x, *y, *z)),
+    match *numbers {
+        [x, y, z] if all_in_range(numbers) => Ok([x, y, z]),
         _ => Err(LabelFault::OutOfRange),
     }
 }
 
-// The number at a place of the three; none past the end.
-fn nth_of(x: i32, y: i32, z: i32, at: usize) -> Option<i32>
-    ensures { result ≡ slice_get (x ∷ y ∷ z ∷ []) at }
+// The number at a place of the three, none past the end, unless one of them is out of range.
+pub(crate) fn number_at(numbers: [i32; COUNT], at: usize) -> Result<Option<i32>, NoWrittenForm>
+    ensures { result ≡ written_at (triple_told (triple_of numbers)) at }
 {
-    match at {
-        0 => Some(x),
-        1 => Some(y),
-        2 => Some(z),
-        _ => None,
-    }
-}
-
-// The number at a place of the three, unless one of them is out of range.
-pub(crate) fn number_at(x: i32, y: i32, z: i32, at: usize) -> Result<Option<i32>, NoWrittenForm>
-    ensures { result ≡ written_at (triple_told (triple x y z)) at }
-{
-    if all_in_range(x, y, z) {
-        Ok(nth_of(x, y, z, at))
+    if all_in_range(&numbers) {
+        Ok(numbers.get(at).copied())
     } else {
         Err(NoWrittenForm)
     }

@@ -1,5 +1,7 @@
 -- One entry more: the least above the floor is kept, or the entry takes its place.
-use Rattle.std.proofs.Common.{◌≡◌, ℕ, ◌+◌, ◌<◌, List, [], ◌∷◌, ◌++◌, length, get_or, take, Some, None, Option, sym, refl, ap, ◌∙◌, subst, subst₂, inl, inr}
+use Rattle.std.proofs.Common.{◌≡◌, ℕ, ◌+◌, ◌<◌, Bool, true, false, MatchBool, List, [], ◌∷◌, ◌++◌, length, get_or, take, Some, None, Option, sym, refl, ap, ◌∙◌, subst, subst₂, inl, inr}
+use Rattle.std.specs.Prelude.{MatchOption}
+use Rattle.std.proofs.lemmas.Bool.{false≢true}
 use Rattle.std.proofs.lemmas.List.{take_more}
 use Rattle.label.specs.Order.{Order}
 use Rattle.mesh.specs.Listed.{In}
@@ -7,6 +9,19 @@ use Rattle.mesh.proofs.Lists.{in_left, in_right, in_push}
 use Rattle.least.specs.Bounds.{Lower, Above, Below}
 use Rattle.least.specs.Least.{LeastClause}
 use Rattle.least.proofs.Orders.{not_itself}
+
+module _ {T R : Type 0} (O : Order R) (rank : T → R) (x : T) where
+  -- whether x is above the floor, as it is asked of a bound if there is one
+  pub above_floor : (f : Option T) (b : Bool) → MatchOption f (b ≡ true) (λ m. MatchBool b (Lower O rank m x) (Lower O rank m x → ⊥)) → (b ≡ true → Above O rank f x) × (b ≡ false → Above O rank f x → ⊥)
+  above_floor None b e = ((λ y. tt), (λ n a. false≢true (sym n ∙ e)))
+  above_floor (Some m) true e = ((λ y. e), (λ n a. false≢true (sym n)))
+  above_floor (Some m) false e = ((λ y. absurd (false≢true y)), (λ n. e))
+
+  -- whether x is below the least so far, as it is asked of a bound if there is one
+  pub below_least : (l : Option T) (b : Bool) → MatchOption l (b ≡ true) (λ m. MatchBool b (Lower O rank x m) (Lower O rank x m → ⊥)) → (b ≡ true → Below O rank x l) × (b ≡ false → Below O rank x l → ⊥)
+  below_least None b e = ((λ y. tt), (λ n a. false≢true (sym n ∙ e)))
+  below_least (Some m) true e = ((λ y. e), (λ n a. false≢true (sym n)))
+  below_least (Some m) false e = ((λ y. absurd (false≢true y)), (λ n. e))
 
 module _ {T R : Type 0} (O : Order R) (rank : T → R) (xs : List T) (floor : Option T) (x : T) where
   -- no entry, with x among them, ranks between the floor and x, if none did between the floor and the least so far

@@ -4,11 +4,11 @@
 mod choice;
 
 use choice::show_any;
-use report::{Shown, hex_bytes};
+use report::{NotShown, hex_bytes};
 use std::process::ExitCode;
 use std::{env, fs};
 
-// The cubic net.
+// The cubic net. The tests write it out again, so that they see it change.
 const CUBIC: [u8; 18] = [1, 1, 3, 0, 0, 2, 0, 0, 0, 0, 0, 2, 0, 0, 0, 0, 0, 2];
 
 const USAGE: &str = "usage: likhroun [show FILE | show-hex FILE]
@@ -18,15 +18,16 @@ const USAGE: &str = "usage: likhroun [show FILE | show-hex FILE]
 
 // Prints what there is to say of the sheet; a refusal ends the program with status 1.
 fn print_sheet(rt: &HostRuntime, bytes: &[u8]) -> anyhow::Result<ExitCode> {
-    match show_any(rt.alloc(), bytes)? {
-        Shown::Net(text) => {
+    match show_any(rt.alloc(), bytes) {
+        Ok(text) => {
             rt.println(text.as_str())?;
             Ok(ExitCode::SUCCESS)
         }
-        Shown::Refused(line) => {
-            rt.println(line.as_str())?;
+        Err(NotShown::Refused(fault)) => {
+            rt.println(fault)?;
             Ok(ExitCode::FAILURE)
         }
+        Err(NotShown::OutOfMemory(error)) => Err(error.into()),
     }
 }
 
@@ -46,6 +47,7 @@ fn usage(rt: &HostRuntime) -> anyhow::Result<ExitCode> {
 }
 
 fn run(rt: &HostRuntime, word: &str, file: &str) -> anyhow::Result<ExitCode> {
+    // two words, once: a table of functions would be longer
     match word {
         "show" => print_sheet(rt, fs::read(rt, file)?.as_slice()),
         "show-hex" => print_hex(rt, fs::read(rt, file)?.as_slice()),

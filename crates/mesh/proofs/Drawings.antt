@@ -11,7 +11,8 @@ use Rattle.mesh.specs.Ports.{Port, ahead, behind, line_ports, ports_of, ports}
 use Rattle.mesh.specs.Target.{target, neighbours, port_back}
 use Rattle.mesh.specs.Drawn.{Allowed, Drawing, blank, draw, Drawn}
 use Rattle.mesh.specs.DrawnLaws.{DrawnLaws}
-use Rattle.mesh.proofs.Groups.{inv_inv, inv_one, stays_one}
+use Rattle.label.specs.Groups.{inv_inv}
+use Rattle.mesh.proofs.Groups.{inv_one, stays_one}
 use Rattle.mesh.proofs.Lists.{in_push, distinct_join, distinct_map, one_place}
 use Rattle.mesh.proofs.Ported.{Gives, in_given, ports_push, ports_count_push, gives_none, given_distinct, port_line, has_back}
 use Rattle.mesh.proofs.Targets.{link_port, same_target, leads, led}

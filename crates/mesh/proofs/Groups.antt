@@ -15,9 +15,6 @@ module _ {M : Type 0} (G : Group M) where
       gone : (z : M) → G.mul (G.inv h) (G.mul h z) ≡ z
       gone z = sym (G.assoc (G.inv h) h z) ∙ ap (λ w. G.mul w z) (G.undo h) ∙ G.left z
 
-  pub inv_inv : (g : M) → G.inv (G.inv g) ≡ g
-  inv_inv g = off_left (G.inv g) (G.inv (G.inv g)) g (G.undone (G.inv g) ∙ sym (G.undo g))
-
   pub inv_one : (g : M) → G.inv g ≡ G.one → g ≡ G.one
   inv_one g e = sym (G.left g) ∙ ap (λ x. G.mul x g) (sym e) ∙ G.undo g
 

@@ -6,7 +6,7 @@ use Rattle.mesh.specs.Exactly.{Distinct}
 use Rattle.mesh.specs.Net.{Line}
 use Rattle.mesh.specs.Ports.{Port, ahead, behind, line_ports, ports_of}
 use Rattle.mesh.specs.Target.{port_back}
-use Rattle.mesh.proofs.Groups.{inv_inv}
+use Rattle.label.specs.Groups.{inv_inv}
 use Rattle.mesh.proofs.Lists.{in_left, in_right, in_either, in_none, distinct_join}
 
 if_in : {X : Type 0} (b : Bool) (x y : X) → In y (cond b (x ∷ []) []) → (b ≡ true) × (y ≡ x)

@@ -42,6 +42,7 @@ pub trait AnyGroup {
 }
 
 // Any group with a total order, which decides what is equal.
+// It repeats the group: under `AnyOrdered: AnyGroup` the order's type would name a member of the bound, and with no function here it would be a law, which no clause can cite.
 pub trait AnyOrdered {
     ghost Meaning: { Type 0 };
 
@@ -51,94 +52,68 @@ pub trait AnyOrdered {
 }
 
 // In any graph a walk read backward is a walk, two walks one after the other are a walk, and a walk splits after any number of its links.
-pub fn walks_reverse_join_split<K: AnyGraph>() -> u8
+pub fn walks_reverse_join_split<K: AnyGraph>()
     ensures { WalkLaws K.AnyGraph.Joined }
-{
-    0
-}
+{}
 
 // In any graph the distance is a metric, and the length of a shortest walk.
-pub fn distance_is_a_metric<K: AnyGraph>() -> u8
+pub fn distance_is_a_metric<K: AnyGraph>()
     ensures { DistanceLaws K.AnyGraph.Joined }
-{
-    0
-}
+{}
 
 // In any graph what is k + 1 away is what is linked to something k away and is not within k; a link changes a distance by at most 1.
-pub fn next_distance<K: AnyGraph>() -> u8
+pub fn next_distance<K: AnyGraph>()
     ensures { StepLaws K.AnyGraph.Joined }
-{
-    0
-}
+{}
 
 // The things with a property have one number; a list of some of them without repetition is no longer, and if it is as long it has them all.
-pub fn counting<K: AnyProperty>() -> u8
+pub fn counting<K: AnyProperty>()
     ensures { CountLaws K.AnyProperty.Holds }
-{
-    0
-}
+{}
 
 // The links of a mesh go both ways.
-pub fn links_are_symmetric<K: AnyGroup>() -> u8
+pub fn links_are_symmetric<K: AnyGroup>()
     ensures { (net : Net K.AnyGroup.Meaning) → Symmetric (Link K.AnyGroup.group net) }
-{
-    0
-}
+{}
 
-// The walks of a mesh reverse, join and split.
-pub fn mesh_walks_reverse_join_split<K: AnyGroup>() -> u8
+// The walks of a mesh reverse, join and split: `walks_reverse_join_split` said of the links of a mesh.
+pub fn mesh_walks_reverse_join_split<K: AnyGroup>()
     ensures { (net : Net K.AnyGroup.Meaning) → WalkLaws (Link K.AnyGroup.group net) }
-{
-    0
-}
+{}
 
-// The distance of a mesh is a metric.
-pub fn mesh_distance_is_a_metric<K: AnyGroup>() -> u8
+// The distance of a mesh is a metric: `distance_is_a_metric` said of the links of a mesh.
+pub fn mesh_distance_is_a_metric<K: AnyGroup>()
     ensures { (net : Net K.AnyGroup.Meaning) → DistanceLaws (Link K.AnyGroup.group net) }
-{
-    0
-}
+{}
 
 // Multiplication on the left keeps links, distances, and how many junctions are at each distance.
 // So the distance of (u, h) and (w, g) is that of the home of u and (w, h⁻¹·g), and what is counted round a home is counted round every junction.
-pub fn distances_are_carried<K: AnyGroup>() -> u8
+pub fn distances_are_carried<K: AnyGroup>()
     ensures { (net : Net K.AnyGroup.Meaning) → Carried K.AnyGroup.group net }
-{
-    0
-}
+{}
 
 // The links of a junction are the ports of its node, and each port has a port back.
-pub fn ports_are_the_links<K: AnyGroup>() -> u8
+pub fn ports_are_the_links<K: AnyGroup>()
     ensures { (net : Net K.AnyGroup.Meaning) → Ported K.AnyGroup.group net }
-{
-    0
-}
+{}
 
 // In a drawn net the ports of a node differ and lead to different junctions, none of them the junction itself: the mesh is a simple graph.
 // Its degrees are the numbers of ports, at most 12.
-pub fn drawn_ports_differ<K: AnyGroup>() -> u8
+pub fn drawn_ports_differ<K: AnyGroup>()
     ensures { (net : Net K.AnyGroup.Meaning) → Drawn K.AnyGroup.group net → DrawnLaws K.AnyGroup.group net }
-{
-    0
-}
+{}
 
 // The next shell is what is linked to the shell and is not in the ball; the ball and the next shell add up to the next ball.
-pub fn next_shell<K: AnyGroup>() -> u8
+pub fn next_shell<K: AnyGroup>()
     ensures { (net : Net K.AnyGroup.Meaning) → ShellLaws K.AnyGroup.group net }
-{
-    0
-}
+{}
 
 // Shells and balls are counted by lists without repetition.
-pub fn counting_shells<K: AnyGroup>() -> u8
+pub fn counting_shells<K: AnyGroup>()
     ensures { (net : Net K.AnyGroup.Meaning) (v k : ℕ) → CountLaws (Shell K.AnyGroup.group net v k) × CountLaws (Ball K.AnyGroup.group net v k) }
-{
-    0
-}
+{}
 
 // Where an order decides which labels are equal, each shell and each ball is finite, and it is decided what is in it.
-pub fn balls_are_finite<K: AnyOrdered>() -> u8
+pub fn balls_are_finite<K: AnyOrdered>()
     ensures { (net : Net K.AnyOrdered.Meaning) → FiniteLaws K.AnyOrdered.group net }
-{
-    0
-}
+{}

@@ -1,6 +1,7 @@
 -- A line drawn or taken back, on the net that draft and list hold.
-use Rattle.std.proofs.Common.{◌≡◌, ℕ, zero, suc, ◌+◌, ◌<◌, ◌≤◌, List, [], ◌∷◌, ◌++◌, map, length, take, set, sym, refl, ap, ◌∙◌, subst, arith}
-use Rattle.std.proofs.lemmas.List.{take_more_set, map_push, same_from_push, length_push}
+use Rattle.std.proofs.Common.{◌≡◌, ℕ, ◌+◌, ◌<◌, ◌≤◌, List, [], ◌∷◌, ◌++◌, map, length, take, set, sym, refl, ap, ◌∙◌, subst, inl, inr, arith}
+use Rattle.std.proofs.lemmas.List.{take_more, take_more_set, map_push, same_from_push, length_push}
+use Rattle.std.proofs.lemmas.Option.{slice_get_cases}
 use Rattle.label.specs.Group.{Group}
 use Rattle.mesh.specs.Net as mesh
 use Rattle.mesh.specs.Drawn.{Drawing, blank, draw, Drawn}
@@ -12,10 +13,12 @@ use Rattle.net.specs.declared.records.Line.{Line}
 use Rattle.net.specs.declared.drafts.Draft.{Draft}
 
 -- the last of the first k + 1 of a list
-last_of : {X : Type 0} (xs : List X) (k : ℕ) → k < length xs → (x : X) × (take (suc k) xs ≡ take k xs ++ (x ∷ []))
-last_of [] k h = absurd (let z : ⊥ = omega arith in z)
-last_of (x ∷ xs) zero h = (x, refl)
-last_of (x ∷ xs) (suc k) h = let r = last_of xs k (omega arith) in (r.0, ap (λ q. x ∷ q) r.1)
+last_of : {X : Type 0} (xs : List X) (k : ℕ) → k < length xs → (x : X) × (take (k + 1) xs ≡ take k xs ++ (x ∷ []))
+last_of xs k h =
+    elim (slice_get_cases xs k).1 [
+      | inl w ↦ (w.0, take_more xs k w.0 h ∙ ap (λ x. take k xs ++ (x ∷ [])) w.3)
+      | inr w ↦ absurd (let z : ⊥ = omega (arith, w.0) in z)
+    ]
 
 module _ {M : Type 0} (G : Group M) where
   -- what can be drawn can be drawn without its last line
@@ -57,10 +60,9 @@ module _ {L M : Type 0} (G : Group M) (stands : L → M) (d d' : Draft) (list : 
   pub line_taken_back : d.lines ≤ length list → d'.lines + 1 ≡ d.lines → d'.nodes ≡ d.nodes → d'.room ≡ d.room → TakenBack G stands d list d'
   line_taken_back h counted nodes room =
       let last = last_of list d'.lines (omega arith) in
-      let more : suc d'.lines ≡ d.lines = omega arith in
       let l = line_of stands last.0 in
       let lines : lines_of stands d.lines list ≡ lines_of stands d'.lines list ++ (l ∷ []) =
-      ap (λ k. lines_of stands k list) (sym more) ∙ ap (map (line_of stands)) last.1 ∙ map_push (line_of stands) (take d'.lines list) last.0 in
+      ap (λ k. lines_of stands k list) (sym counted) ∙ ap (map (line_of stands)) last.1 ∙ map_push (line_of stands) (take d'.lines list) last.0 in
       let net : net_of stands d list ≡ with_line (net_of stands d' list) l =
       ap (λ (k : ℕ). let m : mesh.Net M = record { nodes = k; lines = lines_of stands d.lines list } in m) (sym nodes) ∙ ap (λ (ls : List (mesh.Line M)). let m : mesh.Net M = record { nodes = d'.nodes; lines = ls } in m) lines in
       record {

@@ -1,5 +1,5 @@
 -- Rules checked one part after another.
-use Rattle.std.proofs.Common.{◌≡◌, List, [], ◌∷◌, ◌++◌, IfOk, Ok, Err, Result, refl}
+use Rattle.std.proofs.Common.{◌≡◌, List, [], ◌∷◌, ◌++◌, Ok, Err, Result, refl}
 use Rattle.net.specs.Verdict.{NoneOf, First, here, later, Settled}
 
 module _ {E : Type 0} (Broken : E → Type 0) where
@@ -31,8 +31,3 @@ module _ {E : Type 0} (Broken : E → Type 0) where
   pub first_or_none : {e : E} {es : List E} → First Broken e es → NoneOf Broken es → ⊥
   first_or_none (here b) n = n.0 b
   first_or_none (later m f) n = first_or_none f n.1
-
--- what holds anyway holds of what is made
-pub made_always : {X Y P : Type 0} (r : Result X Y) → P → IfOk r (λ _. P)
-made_always (Ok x) p = p
-made_always (Err y) p = tt

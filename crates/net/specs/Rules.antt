@@ -18,9 +18,15 @@ LineBreaks G net room lent l refusal.PortsFull = PortsFull G net.lines l
 LineBreaks G net room lent l refusal.NodesOutOfRange = ⊥
 LineBreaks G net room lent l refusal.NoLine = ⊥
 
--- the order of the checks: the list and the nodes, then a loop's label, then the ports
+-- the order of the checks: the list, the nodes and the room, then a loop's label, then the ports
+abbrev pub list_rules : List NetRefusal
+list_rules = refusal.OtherLength ∷ []
+
+abbrev pub node_rules : List NetRefusal
+node_rules = refusal.NoSuchNode ∷ refusal.ListFull ∷ []
+
 abbrev pub place_rules : List NetRefusal
-place_rules = refusal.OtherLength ∷ refusal.NoSuchNode ∷ refusal.ListFull ∷ []
+place_rules = list_rules ++ node_rules
 
 abbrev pub loop_rules : List NetRefusal
 loop_rules = refusal.IdentityLoop ∷ refusal.InvolutionLoop ∷ []

@@ -15,3 +15,7 @@ pub data First {E : Type 0} (Broken : E → Type 0) (e : E) : List E → Type 0 
 abbrev pub Settled : {E Y : Type 0} → (E → Type 0) → List E → (Y → Type 0) → Type 0 → Result Y E → Type 0
 Settled Broken rules Done Kept (Ok y) = NoneOf Broken rules × Done y
 Settled Broken rules Done Kept (Err e) = First Broken e rules × Kept
+
+-- only the verdict: no rule is broken, or else the first that is
+abbrev pub Judged : {E Y : Type 0} → (E → Type 0) → List E → Result Y E → Type 0
+Judged Broken rules r = Settled Broken rules (λ _. Unit {0}) (Unit {0}) r

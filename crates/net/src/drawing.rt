@@ -7,7 +7,7 @@ use crate::refusals::NetRefusal;
 use label::Label;
 
 // The most nodes that a net has.
-const MOST_NODES: u32 = 24;
+pub const MOST_NODES: u32 = 24;
 
 impl Draft {
     // A net of that many nodes without lines, over a list that is lent again at each call. Writes nothing.
@@ -38,9 +38,7 @@ impl Draft {
     pub fn take_back<L: Label>(&mut self, list: &[Line<L>]) -> Result<(), NetRefusal>
         ensures { BackClause L.Label.group L.Label.stands self.old list.now result self.new }
     {
-        if list.len() != self.room {
-            return Err(NetRefusal::OtherLength);
-        }
+        self.drawn(list)?;
         if self.lines == 0 {
             return Err(NetRefusal::NoLine);
         }
@@ -52,12 +50,10 @@ impl Draft {
     pub fn ports<L: Label>(&self, list: &[Line<L>], node: u32) -> Result<usize, NetRefusal>
         ensures { PortsClause L.Label.group L.Label.stands self.now list.now node result }
     {
-        if list.len() != self.room {
-            return Err(NetRefusal::OtherLength);
-        }
+        let lines = self.drawn(list)?;
         if node >= self.nodes {
             return Err(NetRefusal::NoSuchNode);
         }
-        Ok(port_count(list, self.lines, node))
+        Ok(port_count(lines, node))
     }
 }

@@ -10,5 +10,7 @@ mod refusals;
 mod rules;
 
 pub use drafts::Draft;
+pub use drawing::MOST_NODES;
 pub use records::Line;
 pub use refusals::NetRefusal;
+pub use rules::MOST_LINES;

@@ -1,17 +1,17 @@
 -- The group of the permutations of the points 0 to 7, their order and their written form. Assumes nothing.
-use Rattle.std.specs.Prelude.{ℕ, true, List, refl}
-use Rattle.std.specs.declared.cmp.Ordering.{Ordering}
+use Rattle.std.specs.Prelude.{ℕ, true, refl}
 use Rattle.std.proofs.Common.{lit≤}
 use Rattle.label.specs.Group.{Group}
 use Rattle.label.specs.Order.{Order}
 use Rattle.label.specs.Form.{Form}
 use Rattle.symmetric.specs.Images.{Perm, unmoved, followed, undone}
 use Rattle.symmetric.specs.Packing.{chosen}
-use Rattle.symmetric.specs.FromLeft.{cmp_number, row, row_order, order_by}
+use Rattle.label.specs.NumberOrder.{number_order, order_by}
+use Rattle.symmetric.specs.FromLeft.{row, row_order}
 use Rattle.symmetric.specs.Written.{image_slots, perm_read, perm_told}
 use Rattle.symmetric.proofs.Laws.{perm_same, permutes_unmoved, permutes_followed, permutes_undone, followed_left, followed_right, followed_assoc, followed_undone, undone_followed}
 use Rattle.symmetric.proofs.Packed.{permutes_chosen}
-use Rattle.symmetric.proofs.Compared.{cmp_itself, cmp_same, cmp_turned, cmp_chain, perms_apart}
+use Rattle.symmetric.proofs.Compared.{perms_apart}
 use Rattle.symmetric.proofs.Written.{written_again, read_back}
 
 abbrev pub one : Perm
@@ -35,19 +35,6 @@ perm_group = record {
   undo = λ p. perm_same (mul (inv p) p) one (undone_followed p);
   undone = λ p. perm_same (mul p (inv p)) one (followed_undone p);
 }
-
-abbrev pub number_order : Order ℕ
-number_order = record {
-  cmp = cmp_number;
-  itself = cmp_itself;
-  same = cmp_same;
-  turned = cmp_turned;
-  chain = cmp_chain;
-}
-
--- the first n numbers of two lists, compared from the left
-abbrev pub from_left : ℕ → List ℕ → List ℕ → Ordering
-from_left n xs ys = (row_order number_order n).cmp (row n xs) (row n ys)
 
 -- by the images, from the left
 abbrev pub perm_order : Order Perm

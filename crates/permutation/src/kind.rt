@@ -1,25 +1,25 @@
-ghost use Rattle.std.specs.Prelude.{◌≡◌, ◌<◌, true, false, map, pos, MatchOption};
+ghost use Rattle.std.specs.Prelude.{◌≡◌, ◌<◌, true, false, map, pos, Some, MatchOption, refl};
 ghost use Rattle.label.specs.Form.{inside, fit};
 ghost use Rattle.symmetric.specs.Images.{Perm, points};
 ghost use Rattle.symmetric.specs.Written.{image_slot, image_slots};
+ghost use Rattle.permutation.specs.Texts.{permutation_text};
 ghost use Rattle.permutation.specs.Permutations.{perm_group, perm_order, perm_form, perm_packed};
 
 use crate::images::all_once;
 use crate::packed::{PackedNumber, PackedPermutation};
 use label::{Label, LabelFault, NoWrittenForm, Slot, Storage};
 use std::cmp::Ordering;
+use std::fmt;
 
 // The number as an image; none unless it is 0 to 7.
 fn image_in(number: i32) -> Option<u8>
     ensures { MatchOption result (inside image_slot number ≡ false) (λ x. (number ≡ pos x) × (x < 8)) }
 {
-    match number {
-        0..=7 => Some(number as u8),
-        _ => None,
-    }
+    u8::try_from(number).ok().filter(|image| *image < 8)
 }
 
 // The numbers as images; none unless there are eight, each 0 to 7.
+// By an index, for after an adapter of `iter_mut` a proof knows nothing of the elements.
 fn images_in(numbers: &[i32]) -> Option<[u8; 8]>
     ensures { MatchOption result (fit image_slots numbers.now ≡ false) (λ xs. (numbers.now ≡ map pos xs) × (points xs ≡ true)) }
 {
@@ -27,11 +27,8 @@ fn images_in(numbers: &[i32]) -> Option<[u8; 8]>
         return None;
     }
     let mut images = [0; 8];
-    for i in 0..8 {
-        let Some(image) = image_in(numbers[i]) else {
-            return None;
-        };
-        images[i] = image;
+    for (i, number) in numbers.iter().enumerate() {
+        images[i] = image_in(*number)?;
     }
     Some(images)
 }
@@ -39,6 +36,8 @@ fn images_in(numbers: &[i32]) -> Option<[u8; 8]>
 // A number stands for the permutation that it packs, and for the identity where it packs none.
 impl Label for PackedNumber {
     const NUMBERS: usize = 8;
+
+    ghost NUMBERS = { 8 };
 
     ghost Meaning = { Perm };
 
@@ -50,54 +49,59 @@ impl Label for PackedNumber {
 
     ghost stands = { λ n. perm_packed n.0 };
 
+    ghost counted = { refl };
+
     fn identity() -> PackedNumber {
-        PackedPermutation::identity().number()
+        PackedPermutation::identity().into()
     }
 
     fn product(self, other: PackedNumber) -> PackedNumber {
-        let first = PackedPermutation::of(self);
-        let second = PackedPermutation::of(other);
-        first.then(second).number()
+        let first = PackedPermutation::from(self);
+        let second = PackedPermutation::from(other);
+        first.then(second).into()
     }
 
     fn inverse(self) -> PackedNumber {
-        PackedPermutation::of(self).inverse().number()
+        PackedPermutation::from(self).inverse().into()
     }
 
     fn compare(self, other: PackedNumber) -> Ordering {
-        PackedPermutation::of(self).compare(PackedPermutation::of(other))
-    }
-
-    fn width() -> usize {
-        Self::NUMBERS
+        PackedPermutation::from(self).compare(PackedPermutation::from(other))
     }
 
     fn slot(at: usize) -> Option<Slot> {
-        if at < 8 {
-            Some(Slot {
-                storage: Storage::Image,
-                least: 0,
-                most: 7,
-            })
-        } else {
-            None
-        }
+        (at < Self::NUMBERS).then_some(Slot {
+            storage: Storage::Image,
+            least: 0,
+            most: 7,
+        })
     }
 
     fn read(numbers: &[i32]) -> Result<PackedNumber, LabelFault> {
-        let Some(images) = images_in(numbers) else {
-            return Err(LabelFault::OutOfRange);
-        };
+        let images = images_in(numbers).ok_or(LabelFault::OutOfRange)?;
         if !all_once(&images) {
             return Err(LabelFault::NoPermutation);
         }
-        Ok(PackedPermutation::with_images(&images).number())
+        Ok(PackedPermutation::with_images(&images).into())
     }
 
     fn written(self, at: usize) -> Result<Option<i32>, NoWrittenForm> {
-        match PackedPermutation::of(self).image(at) {
-            Some(x) => Ok(Some(x as i32)),
-            None => Ok(None),
+        Ok(PackedPermutation::from(self).image(at).map(i32::from))
+    }
+}
+
+// `[1 2 3 4 5 6 7 0]`
+impl fmt::Display for PackedNumber {
+    ghost output = { λ n. Some (permutation_text n) };
+
+    fn fmt<W: fmt::Write>(&self, f: &mut fmt::Formatter<W>) -> fmt::Result {
+        let images = PackedPermutation::from(*self).images();
+        let first = images[0];
+        write!(f, "[{first}")?;
+        // the images after the first, as items: no index is counted
+        for image in &images[1..] {
+            write!(f, " {image}")?;
         }
+        write!(f, "]")
     }
 }

@@ -4,7 +4,7 @@ ghost use Rattle.symmetric.specs.Images.{permutes};
 ghost use Rattle.permutation.specs.Permutations.{perm_group, perm_order, perm_packed};
 ghost use Rattle.permutation.specs.Standing.{perm};
 
-use crate::images::{compared, composed, inverted, pack, packs_one, unpack};
+use crate::images::{composed, inverted, pack, packs_one, unpack};
 use crate::packed::{PackedNumber, PackedPermutation};
 use std::cmp::Ordering;
 
@@ -16,16 +16,6 @@ impl PackedPermutation {
         PackedPermutation { packed: 0o76543210 }
     }
 
-    // The permutation that the number stands for: the identity where it packs none.
-    pub fn of(number: PackedNumber) -> PackedPermutation
-        ensures { perm result ≡ perm_packed number.0 }
-    {
-        if packs_one(number.0) {
-            return PackedPermutation { packed: number.0 };
-        }
-        PackedPermutation::identity()
-    }
-
     // The permutation with these images.
     pub(crate) fn with_images(images: &[u8; 8]) -> PackedPermutation
         requires { permutes images.now ≡ true }
@@ -34,13 +24,6 @@ impl PackedPermutation {
         PackedPermutation {
             packed: pack(images),
         }
-    }
-
-    // The plain number, for slices.
-    pub fn number(self) -> PackedNumber
-        ensures { (perm_packed result.0 ≡ perm self) × (result.0 ≡ self.packed) }
-    {
-        PackedNumber(self.packed)
     }
 
     // The images of 0 to 7.
@@ -54,11 +37,7 @@ impl PackedPermutation {
     pub fn image(self, point: usize) -> Option<u8>
         ensures { result ≡ slice_get (perm self).0 point }
     {
-        if point < 8 {
-            Some(self.images()[point])
-        } else {
-            None
-        }
+        self.images().get(point).copied()
     }
 
     // `self` first, and then `other`.
@@ -75,10 +54,32 @@ impl PackedPermutation {
         PackedPermutation::with_images(&inverted(&self.images()))
     }
 
-    // By the images, from the left.
+    // By the images, from the left. No Ord: the derived order of the packed numbers is another one.
+    #[tactic(auto, using(symmetric::proofs::Compared::rows_compare))]
     pub fn compare(self, other: PackedPermutation) -> Ordering
         ensures { result ≡ perm_order.cmp (perm self) (perm other) }
     {
-        compared(&self.images(), &other.images())
+        self.images().cmp(&other.images())
+    }
+}
+
+// The permutation that the number stands for: the identity where it packs none.
+impl From<PackedNumber> for PackedPermutation {
+    ghost from_gives = { λ n p. perm p ≡ perm_packed n.0 };
+
+    fn from(number: PackedNumber) -> PackedPermutation {
+        if packs_one(number.0) {
+            return PackedPermutation { packed: number.0 };
+        }
+        PackedPermutation::identity()
+    }
+}
+
+// The plain number, for slices.
+impl From<PackedPermutation> for PackedNumber {
+    ghost from_gives = { λ p n. (perm_packed n.0 ≡ perm p) × (n.0 ≡ p.packed) };
+
+    fn from(permutation: PackedPermutation) -> PackedNumber {
+        PackedNumber(permutation.packed)
     }
 }

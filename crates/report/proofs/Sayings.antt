@@ -11,7 +11,7 @@ use Rattle.net.specs.declared.records.Line.{Line}
 use Rattle.net.specs.declared.drafts.Draft.{Draft}
 use Rattle.sheet.specs.Stored.{Small}
 use Rattle.sheet.specs.Clauses.{WasRead, WriteSheet}
-use Rattle.sheet.specs.declared.faults.WriteRefusal.{WriteRefusal}
+use Rattle.sheet.specs.declared.refusals.WriteRefusal.{WriteRefusal}
 use Rattle.sheet.proofs.RoundTrips.{written_again}
 use Rattle.report.specs.Lines.{line_said, ports_said}
 use Rattle.report.specs.Shown.{next_line, lines_said, nodes_ports}

@@ -1,5 +1,4 @@
-pub mod Words
-pub mod Texts
 pub mod Lines
 pub mod Hex
 pub mod Shown
+pub mod Texts

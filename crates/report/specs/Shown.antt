@@ -1,5 +1,5 @@
 -- What is said of a whole sheet. Assumes nothing.
-use Rattle.std.specs.Prelude.{◌≡◌, ℕ, zero, suc, true, List, [], ◌∷◌, ◌++◌, length, take, string_bytes}
+use Rattle.std.specs.Prelude.{◌≡◌, ℕ, zero, suc, true, Ok, Err, Result, String, List, [], ◌∷◌, ◌++◌, length, take, string_bytes}
 use Rattle.label.specs.Group.{Group}
 use Rattle.label.specs.Form.{Form}
 use Rattle.mesh.specs.Ports.{ports}
@@ -7,11 +7,10 @@ use Rattle.net.specs.Model.{net_of}
 use Rattle.net.specs.declared.records.Line.{Line}
 use Rattle.net.specs.declared.drafts.Draft.{Draft}
 use Rattle.sheet.specs.Clauses.{WasRead, WasRefused}
-use Rattle.sheet.specs.declared.faults.SheetFault.{SheetFault}
-use Rattle.report.specs.Words.{fault_line}
 use Rattle.report.specs.Lines.{line_said, sheet_said, nodes_said, ports_said, again_said}
-use Rattle.report.specs.declared.shown.Shown.{Shown}
-use Rattle.report.specs.declared.shown.Shown.TheVariants.{Net, Refused}
+use Rattle.std.specs.Global.{Global}
+use Rattle.report.specs.declared.shown.NotShown.{NotShown}
+use Rattle.report.specs.declared.shown.NotShown.TheVariants.{OutOfMemory, Refused}
 
 -- a text on a line of its own, after others
 abbrev pub next_line : List ℕ → List ℕ
@@ -34,7 +33,8 @@ module _ {L M : Type 0} (G : Group M) (F : Form M) (stands : L → M) (kind : �
       (((sheet_said name (length bytes) ++ next_line (nodes_said d.nodes)) ++ lines_said shown 0 (take d.lines list)) ++ nodes_ports (λ u. length (ports G (net_of stands d list) u)) d.nodes)
       ++ next_line (again_said (length bytes) true)
 
-  -- what is said of the bytes, where reading them changes the list so
-  abbrev pub Says : List ℕ → List (Line L) → Shown → List (Line L) → Type 0
-  Says bytes list (Net s) list' = (d : Draft) × WasRead G F stands kind bytes list d list' × (string_bytes s ≡ net_said bytes d list')
-  Says bytes list (Refused s) list' = (f : SheetFault) × WasRefused G F stands kind bytes list f list' × (string_bytes s ≡ fault_line f)
+  -- what is said of the bytes, where reading them changes the list so: the net that was read, or the fault; nothing where memory ran out
+  abbrev pub Says : List ℕ → List (Line L) → Result (String Global) NotShown → List (Line L) → Type 0
+  Says bytes list (Ok s) list' = (d : Draft) × WasRead G F stands kind bytes list d list' × (string_bytes s ≡ net_said bytes d list')
+  Says bytes list (Err (Refused f)) list' = WasRefused G F stands kind bytes list f list'
+  Says bytes list (Err (OutOfMemory e)) list' = Unit {0}

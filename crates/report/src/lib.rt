@@ -1,16 +1,15 @@
-// What the companion program prints: sheets, nets and refusals as text.
+// What the companion program prints of sheets and nets, as text.
 #![tactic(auto)]
 
-mod faults;
 mod hex;
-mod labels;
 mod lines;
 mod saying;
 mod shown;
+mod shown_kinds;
 
-pub use faults::{fault_text, words, write_refusal_text};
 pub use hex::hex_bytes;
-pub use labels::ShownKind;
 pub use lines::{again_text, line_text, nodes_text, ports_text, sheet_text};
 pub use saying::show;
-pub use shown::Shown;
+pub use sheet::words;
+pub use shown::NotShown;
+pub use shown_kinds::ShownKind;

@@ -1,7 +1,7 @@
 ghost use Rattle.std.specs.Prelude.{◌≡◌, IfOk, string_bytes};
 ghost use Rattle.report.specs.Lines.{line_said, sheet_said, nodes_said, ports_said, again_said};
 
-use crate::labels::ShownKind;
+use crate::shown_kinds::ShownKind;
 use net::Line;
 use std::alloc::{AllocError, Global};
 
@@ -15,7 +15,7 @@ pub fn line_text<K: ShownKind>(
 {
     let tail = line.tail;
     let head = line.head;
-    let label = line.label.text(heap)?;
+    let label = line.label;
     format!(in heap; "line {index}: {tail} -> {head}  {label}")
 }
 
@@ -41,7 +41,7 @@ pub fn ports_text(heap: Global, node: u32, ports: usize) -> Result<String, Alloc
     format!(in heap; "node {node}: {ports} ports")
 }
 
-// How long the sheet is that was written again, and whether it is the same as before.
+// How long the sheet is that was written again, and whether it is the same as before: a yes or no, and both are said.
 pub fn again_text(heap: Global, length: usize, same: bool) -> Result<String, AllocError>
     ensures { IfOk result (λ s. string_bytes s ≡ again_said length same) }
 {

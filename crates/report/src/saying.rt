@@ -6,103 +6,85 @@ ghost use Rattle.sheet.specs.Clauses.{WasRead};
 ghost use Rattle.report.specs.Lines.{again_said};
 ghost use Rattle.report.specs.Shown.{next_line, lines_said, nodes_ports, net_said, Says};
 
-use crate::faults::{fault_text, write_refusal_text};
-use crate::labels::ShownKind;
 use crate::lines::{again_text, line_text, nodes_text, ports_text, sheet_text};
-use crate::shown::Shown;
+use crate::shown::NotShown;
+use crate::shown_kinds::ShownKind;
 use net::{Draft, Line};
 use sheet::{read, write};
 use std::alloc::{AllocError, Global};
 
+// A line more at the end of the text.
 fn push_line(text: &mut String, line: &str) -> Result<(), AllocError>
     ensures { OnOk result (string_bytes text.new ≡ string_bytes text.old ++ next_line line.now) }
 {
-    text.push_str("\n")?;
-    text.push_str(line)?;
-    Ok(())
+    write!(text, "\n{line}")
 }
 
-fn push_lines<K: ShownKind>(
+// A net that was read from a sheet: its draft, over the list with its lines. What is said of it stands in the heap.
+#[derive(Drop)]
+struct ReadNet<'a, K> {
     heap: Global,
-    text: &mut String,
-    draft: &Draft,
-    list: &[Line<K>],
-) -> Result<(), AllocError>
-    requires { draft.now.lines ≤ length list.now }
-    ensures { OnOk result (string_bytes text.new ≡ string_bytes text.old ++ lines_said K.ShownKind.shown 0 (take draft.now.lines list.now)) }
-{
-    for i in 0..draft.lines() {
-        let line = line_text(heap, i, list[i])?;
-        push_line(text, line.as_str())?;
+    bytes: &'a [u8],
+    draft: &'a Draft,
+    list: &'a [Line<K>],
+    ghost lent: { length list.now ≡ draft.now.room },
+}
+
+impl<'a, K: ShownKind> ReadNet<'a, K> {
+    // The lines, in the order of the list.
+    fn push_lines(&self, text: &mut String) -> Result<(), AllocError>
+        ensures { OnOk result (string_bytes text.new ≡ string_bytes text.old ++ lines_said K.ShownKind.shown 0 (take self.now.draft.now.lines self.now.list.now)) }
+    {
+        let Ok(lines) = self.draft.drawn(self.list) else {
+            unreachable!()
+        };
+        for (i, line) in lines.iter().enumerate() {
+            push_line(text, line_text(self.heap, i, *line)?.as_str())?;
+        }
+        Ok(())
     }
-    Ok(())
-}
 
-fn push_ports<K: ShownKind>(
-    heap: Global,
-    text: &mut String,
-    draft: &Draft,
-    list: &[Line<K>],
-) -> Result<(), AllocError>
-    requires { length list.now ≡ draft.now.room }
-    ensures { OnOk result (string_bytes text.new ≡ string_bytes text.old ++ nodes_ports (λ u. length (ports K.Label.group (net_of K.Label.stands draft.now list.now) u)) draft.now.nodes) }
-{
-    for node in 0..draft.nodes() {
-        match draft.ports(list, node) {
-            Ok(ports) => push_line(text, ports_text(heap, node, ports)?.as_str())?,
-            Err(_) => unreachable(),
+    // How many ports each node has.
+    fn push_ports(&self, text: &mut String) -> Result<(), AllocError>
+        ensures { OnOk result (string_bytes text.new ≡ string_bytes text.old ++ nodes_ports (λ u. length (ports K.Label.group (net_of K.Label.stands self.now.draft.now self.now.list.now) u)) self.now.draft.now.nodes) }
+    {
+        // nodes are numbers: there is no item to go over
+        for node in 0..self.draft.nodes() {
+            match self.draft.ports(self.list, node) {
+                Ok(ports) => push_line(text, ports_text(self.heap, node, ports)?.as_str())?,
+                Err(_) => unreachable!(),
+            }
+        }
+        Ok(())
+    }
+
+    // What is said of the net written again: into an output as long as the sheet it gives the same bytes.
+    fn again(&self) -> Result<String, AllocError>
+        requires { (before : List (Line K)) × WasRead K.Label.group K.Label.form K.Label.stands K.SheetKind.KIND self.now.bytes.now before self.now.draft.now self.now.list.now }
+        ensures { IfOk result (λ s. string_bytes s ≡ again_said (length self.now.bytes.now) true) }
+    {
+        let mut out = vec![in self.heap; 0u8; self.bytes.len()]?;
+        match write(self.draft, self.list, out.as_mut_slice()) {
+            Ok(length) => again_text(self.heap, length, out.as_slice() == self.bytes),
+            Err(refusal) => refusal.to_string(self.heap),
         }
     }
-    Ok(())
-}
 
-// Writes the net that was read from the bytes into an output as long: the bytes are the same.
-fn rewritten<K: ShownKind>(
-    heap: Global,
-    bytes: &[u8],
-    draft: &Draft,
-    list: &[Line<K>],
-    out: &mut [u8],
-) -> Result<String, AllocError>
-    requires { (((before : List (Line K)) × WasRead K.Label.group K.Label.form K.Label.stands K.SheetKind.kind bytes.now before draft.now list.now)) × (length out.old ≡ length bytes.now) }
-    ensures { IfOk result (λ s. string_bytes s ≡ again_said (length bytes.now) true) }
-{
-    match write(draft, list, out) {
-        Ok(length) => again_text(heap, length, &out[0..] == bytes),
-        Err(refusal) => write_refusal_text(heap, refusal),
+    // All that is said of the net.
+    fn text(&self) -> Result<String, AllocError>
+        requires { (before : List (Line K)) × WasRead K.Label.group K.Label.form K.Label.stands K.SheetKind.KIND self.now.bytes.now before self.now.draft.now self.now.list.now }
+        ensures { IfOk result (λ s. string_bytes s ≡ net_said K.Label.group K.Label.form K.Label.stands K.SheetKind.KIND K.ShownKind.name K.ShownKind.shown self.now.bytes.now self.now.draft.now self.now.list.now) }
+    {
+        let mut text = sheet_text::<K>(self.heap, self.bytes.len())?;
+        push_line(
+            &mut text,
+            nodes_text(self.heap, self.draft.nodes())?.as_str(),
+        )?;
+        self.push_lines(&mut text)?;
+        self.push_ports(&mut text)?;
+        push_line(&mut text, self.again()?.as_str())?;
+        Ok(text)
     }
-}
-
-fn again<K: ShownKind>(
-    heap: Global,
-    bytes: &[u8],
-    draft: &Draft,
-    list: &[Line<K>],
-) -> Result<String, AllocError>
-    requires { (before : List (Line K)) × WasRead K.Label.group K.Label.form K.Label.stands K.SheetKind.kind bytes.now before draft.now list.now }
-    ensures { IfOk result (λ s. string_bytes s ≡ again_said (length bytes.now) true) }
-{
-    let mut out = vec![in heap; 0u8; bytes.len()]?;
-    rewritten(heap, bytes, draft, list, out.as_mut_slice())
-}
-
-fn net_text<K: ShownKind>(
-    heap: Global,
-    bytes: &[u8],
-    draft: &Draft,
-    list: &[Line<K>],
-) -> Result<String, AllocError>
-    requires { (before : List (Line K)) × WasRead K.Label.group K.Label.form K.Label.stands K.SheetKind.kind bytes.now before draft.now list.now }
-    ensures { IfOk result (λ s. string_bytes s ≡ net_said K.Label.group K.Label.form K.Label.stands K.SheetKind.kind K.ShownKind.name K.ShownKind.shown bytes.now draft.now list.now) }
-{
-    let mut text = sheet_text::<K>(heap, bytes.len())?;
-    let nodes = nodes_text(heap, draft.nodes())?;
-    push_line(&mut text, nodes.as_str())?;
-    push_lines(heap, &mut text, draft, list)?;
-    push_ports(heap, &mut text, draft, list)?;
-    let last = again(heap, bytes, draft, list)?;
-    push_line(&mut text, last.as_str())?;
-    Ok(text)
 }
 
 // Reads the sheet as one of the kind, into the list, and says what is in it or why it is refused.
@@ -110,17 +92,15 @@ pub fn show<K: ShownKind>(
     heap: Global,
     bytes: &[u8],
     list: &mut [Line<K>],
-) -> Result<Shown, AllocError>
-    ensures { IfOk result (λ s. Says K.Label.group K.Label.form K.Label.stands K.SheetKind.kind K.ShownKind.name K.ShownKind.shown bytes.now list.old s list.new) }
+) -> Result<String, NotShown>
+    ensures { Says K.Label.group K.Label.form K.Label.stands K.SheetKind.KIND K.ShownKind.name K.ShownKind.shown bytes.now list.old result list.new }
 {
-    match read(bytes, list) {
-        Ok(draft) => {
-            let text = net_text(heap, bytes, &draft, list)?;
-            Ok(Shown::Net(text))
-        }
-        Err(fault) => {
-            let line = fault_text(heap, fault)?;
-            Ok(Shown::Refused(line))
-        }
-    }
+    let draft = read(bytes, list)?;
+    let net = ReadNet {
+        heap,
+        bytes,
+        draft: &draft,
+        list,
+    };
+    Ok(net.text()?)
 }

@@ -10,7 +10,6 @@ use Rattle.rings.specs.Turned.{rotated, turned}
 use Rattle.rings.specs.Through.{Through}
 use Rattle.rings.specs.Standard.{Standard}
 use Rattle.rings.specs.FormLaws.{FormLaws}
-use Rattle.rings.specs.SameRingLaws.{SameRingLaws}
 use Rattle.rings.proofs.Places.{different}
 use Rattle.rings.proofs.Rounds.{gap}
 use Rattle.rings.proofs.Gaps.{gap_next, Beside, beside}
@@ -156,10 +155,3 @@ module _ {J : Type 0} (Link : J → J → Type 0) where
     unique = λ L o x y c d e s t p q. form_same L o x y d e s t (same_trans {c = d} {d = c} {e = e} (same_sym {c = c} {d = d} p) q);
     through = form_through;
   }
-
-pub same_ring_laws : (J : Type 0) → SameRingLaws J
-same_ring_laws J = record {
-  itself = λ c a b. (λ u. u, λ u. u);
-  turned = λ c d s. same_sym {c = c} {d = d} s;
-  chained = λ c d e s t. same_trans {c = c} {d = d} {e = e} s t;
-}

@@ -1,10 +1,9 @@
 -- Junctions of a shell, each with as many of the shell before it as its place tells.
-use Rattle.std.proofs.Common.{◌≡◌, ℕ, suc, ◌<◌, List, [], ◌∷◌, map, length, Some, Ordering, Less, Equal, Greater, sym, refl, ap, ◌∙◌, subst, inl, inr, arith}
-use native.Mathlib.Decide.{dec_lt}
+use Rattle.std.proofs.Common.{◌≡◌, ℕ, suc, ◌<◌, List, [], ◌∷◌, map, length, Some, Ordering, Less, Equal, Greater, sym, refl, ap, ◌∙◌, subst, arith}
 use lib.ListN.{length-map}
 use Rattle.std.specs.List.{range_with_len, slice_get}
 use Rattle.std.specs.Ordering.{ordering_reverse}
-use Rattle.std.proofs.lemmas.Option.{slice_get-get_or, slice_get_past}
+use Rattle.std.proofs.lemmas.Option.{slice_get-get_or, slice_get_within}
 use Rattle.std.proofs.lemmas.List.FromFn.{length-map-range_with_len, get_or-map-range_with_len}
 use Rattle.label.specs.Group.{Group}
 use Rattle.label.specs.Order.{Order}
@@ -20,26 +19,13 @@ use Rattle.mesh.proofs.Lists.{from_map, distinct_map}
 use Rattle.mesh.proofs.Counts.{one_count, at_most, all_found}
 use Rattle.mesh.proofs.Carries.{carry_distance, carried_back, carried}
 use Rattle.survey.specs.Clauses.{Before, Member}
-
--- a place that holds something is in the list
-inside : {X : Type 0} (xs : List X) (i : ℕ) (x : X) → slice_get xs i ≡ Some x → i < length xs
-inside {X} xs i x e =
-    elim (dec_lt i (length xs)) [
-      | yes h ↦ h
-      | no h ↦ let p = slice_get_past xs i (omega arith) in let z : ◌≡◌ {A = ℕ} 0 1 = cc in absurd (let y : ⊥ = omega arith in y)
-    ]
-
--- what stands in a list has a place
-place : {X : Type 0} (x : X) (xs : List X) → In x xs → (i : ℕ) × (slice_get xs i ≡ Some x)
-place x [] i = absurd i
-place x (y ∷ xs) (inl e) = (0, ap Some (sym e))
-place x (y ∷ xs) (inr i) = let p = place x xs i in (suc p.0, p.1)
+use Rattle.survey.proofs.Places.{in_nth}
 
 -- a list of which no two places hold the same has nothing twice
 distinct_places : {X : Type 0} (xs : List X) → ((i j : ℕ) (x : X) → i < j → slice_get xs i ≡ Some x → slice_get xs j ≡ Some x → ⊥) → Distinct xs
 distinct_places [] apart = tt
 distinct_places (x ∷ xs) apart = (
-  λ i. let p = place x xs i in apart 0 (suc p.0) x (omega arith) refl p.1,
+  λ i. let p = in_nth x xs i in apart 0 (suc p.0) x (omega arith) refl p.2,
   distinct_places xs (λ i j y h p q. apart (suc i) (suc j) y (omega arith) p q),
 )
 
@@ -80,7 +66,7 @@ module _ {L M : Type 0} (G : Group M) (O : Order M) (stands : L → M) (net : Ne
     -- what a place holds is the member that is told there
     members_told : (i : ℕ) (b : Junction M) → slice_get members i ≡ Some b → (i < number) × (b ≡ f i)
     members_told i b e =
-        let h : i < number = let l = inside members i b e in let long = members_long in omega arith in
+        let h : i < number = let l = slice_get_within members i b e in let long = members_long in omega arith in
         (h, let p = members_at i h in cc)
 
     pub members_ascend : (i j : ℕ) (b c : Junction M) → i < j → slice_get members i ≡ Some b → slice_get members j ≡ Some c → Before G O stands b c
@@ -94,8 +80,8 @@ module _ {L M : Type 0} (G : Group M) (O : Order M) (stands : L → M) (net : Ne
 
     members_only : (b : Junction M) → In b members → Shell G net v k b
     members_only b i =
-        let p = place b members i in
-        let x = members_told p.0 b p.1 in
+        let p = in_nth b members i in
+        let x = members_told p.0 b p.2 in
         subst (Shell G net v k) (sym x.1) (each p.0 x.0).in_shell
 
     -- the members, carried, are exactly what is k from any junction of the node

@@ -1,5 +1,5 @@
 -- What a survey answers over its own memory, and so every survey that calls reach.
-use Rattle.std.proofs.Common.{◌≡◌, ℕ, suc, ◌^◌, ◌<◌, ◌≤◌, Bool, true, false, ◌⊎◌, List, length, Some, Ok, Err, MatchBool, Option, Result, sym, refl, ap, ◌∙◌, subst, inl, inr, arith}
+use Rattle.std.proofs.Common.{◌≡◌, ℕ, suc, ◌^◌, ◌<◌, ◌≤◌, Bool, true, false, ◌⊎◌, List, length, Some, None, Ok, Err, MatchBool, Option, Result, sym, refl, ap, ◌∙◌, subst, inl, inr, arith}
 use Rattle.label.specs.Group.{Group}
 use Rattle.label.specs.Order.{Order}
 use Rattle.mesh.specs.Distance.{Distance}
@@ -21,8 +21,6 @@ use Rattle.survey.specs.declared.records.Record.{Record}
 use Rattle.survey.specs.declared.surveys.Survey.{Survey}
 use Rattle.survey.specs.declared.refusals.SurveyRefusal.{SurveyRefusal}
 use Rattle.survey.specs.declared.refusals.SurveyRefusal.TheVariants.{PoolFull, NoSuchMember}
-use Rattle.survey.specs.declared.refusals.Reach.{Reach}
-use Rattle.survey.specs.declared.refusals.Reach.TheVariants.{At, Beyond}
 use Rattle.run.specs.Findings.{ShellTold, DistanceTold, RoomTold, Findings, FindingsHold}
 use Rattle.run.proofs.Members.{members, members_long, members_at, members_ascend, members_carried}
 use Rattle.run.proofs.Runs.{run_owned}
@@ -81,21 +79,21 @@ module _ {L M : Type 0} (G : Group M) (O : Order M) (stands : L → M) (s : Surv
     next_told floor (Ok found) c = (found, refl, c.1 o)
     next_told floor (Err e) c = absurd (first_or_none (ShellBreaks s (length list) (length pool) v k 0) c.0 shell_allowed)
 
-  reach_told : (v : ℕ) (j : Junction L) (x : Reach) → Reaches G O stands held s.radius v (junction_of stands j) x → DistanceTold G O stands held s.radius v j (Ok x)
-  reach_told v j (At m) h = record {
-    reach = At m;
+  reach_told : (v : ℕ) (j : Junction L) (x : Option ℕ) → Reaches G O stands held s.radius v (junction_of stands j) x → DistanceTold G O stands held s.radius v j (Ok x)
+  reach_told v j (Some m) h = record {
+    reach = Some m;
     answer = refl;
     at = λ k. (
       λ e. let p : m ≡ k = cc in subst (λ (n : ℕ). (n ≤ s.radius) × Distance (Link G held) n (mesh.home G v) (junction_of stands j)) p h,
-      λ d. ap At (one_distance (Link G held) h.1 d.1),
+      λ d. ap Some (one_distance (Link G held) h.1 d.1),
     );
     beyond = (
       λ e. absurd (let z : ◌≡◌ {A = ℕ} 0 1 = cc in let y : ⊥ = omega arith in y),
       λ f. absurd (f (record { far = m; near = h.0; distance = h.1 })),
     );
   }
-  reach_told v j Beyond h = record {
-    reach = Beyond;
+  reach_told v j None h = record {
+    reach = None;
     answer = refl;
     at = λ k. (
       λ e. absurd (let z : ◌≡◌ {A = ℕ} 0 1 = cc in let y : ⊥ = omega arith in y),
@@ -104,7 +102,7 @@ module _ {L M : Type 0} (G : Group M) (O : Order M) (stands : L → M) (s : Surv
     beyond = (λ e. h, λ f. refl);
   }
 
-  distance_told : (v : ℕ) (j : Junction L) → v < s.draft.nodes → j.node < s.draft.nodes → (a : Result Reach SurveyRefusal) → DistanceClause G O stands s list pool v j a → DistanceTold G O stands held s.radius v j a
+  distance_told : (v : ℕ) (j : Junction L) → v < s.draft.nodes → j.node < s.draft.nodes → (a : Result (Option ℕ) SurveyRefusal) → DistanceClause G O stands s list pool v j a → DistanceTold G O stands held s.radius v j a
   distance_told v j p q (Ok x) h = reach_told v j x (h.1 o)
   distance_told v j p q (Err e) h =
       absurd (first_or_none (DistanceBreaks s (length list) (length pool) v j.node) h.0 (own, ((λ f. elim f [ inl a ↦ omega arith | inr b ↦ omega arith ]), tt)))

@@ -1,5 +1,5 @@
 -- Each call, by its contract, does what the model says.
-use Rattle.std.proofs.Common.{◌≡◌, ℕ, suc, ◌<◌, ◌≤◌, false, ◌⊎◌, List, [], ◌∷◌, ◌++◌, length, Ok, Err, Result, sym, ap, ◌∙◌, subst, inl, inr, arith}
+use Rattle.std.proofs.Common.{◌≡◌, ℕ, suc, ◌<◌, ◌≤◌, false, ◌⊎◌, List, [], ◌∷◌, ◌++◌, length, Ok, Err, Result, sym, refl, ap, ◌∙◌, subst, inl, inr, arith}
 use native.Mathlib.Decide.{dec_le, dec_lt}
 use Rattle.label.specs.Group.{Group}
 use Rattle.label.specs.Order.{Order}
@@ -145,6 +145,30 @@ module _ {L M : Type 0} (G : Group M) (O : Order M) (stands : L → M) (list : L
   -- what asks a survey, or is not for it, leaves it as it is
   pub survey_idle : (s : Survey) (c : Call L) → ((net : Net M) (r : ℕ) → Stays G stands (length list) (length pool) c (surveyed net r)) → TurnClause G O stands (Surveying s) c list pool (Surveying s) list pool
   survey_idle s c idle = survey_turn s c (Surveying s) pool surveyed (λ net r o. stays (idle net r)) (λ net r run. run)
+
+  -- a draft leaves out what is not for it
+  pub draft_other : (d : Draft) (c : Call L) → ((l : Line L) → c ≡ call.Line l → ⊥) → (c ≡ call.TakeBack → ⊥) → (c ≡ call.Seal → ⊥) → TurnClause G O stands (Drafting d) c list pool (Drafting d) list pool
+  draft_other d (call.Line l) line back seal = absurd (line l refl)
+  draft_other d call.TakeBack line back seal = absurd (back refl)
+  draft_other d call.Seal line back seal = absurd (seal refl)
+  draft_other d call.Grow line back seal = draft_idle d call.Grow (λ net. tt)
+  draft_other d (call.Count v k) line back seal = draft_idle d (call.Count v k) (λ net. tt)
+  draft_other d (call.Member v k i) line back seal = draft_idle d (call.Member v k i) (λ net. tt)
+  draft_other d (call.Next v k floor) line back seal = draft_idle d (call.Next v k floor) (λ net. tt)
+  draft_other d (call.Distance v to) line back seal = draft_idle d (call.Distance v to) (λ net. tt)
+  draft_other d call.Reopen line back seal = draft_idle d call.Reopen (λ net. tt)
+
+  -- a survey leaves out what is not for it, and a question leaves it as it is
+  pub survey_other : (s : Survey) (c : Call L) → (c ≡ call.Grow → ⊥) → (c ≡ call.Reopen → ⊥) → TurnClause G O stands (Surveying s) c list pool (Surveying s) list pool
+  survey_other s (call.Line l) grow reopen = survey_idle s (call.Line l) (λ net r. tt)
+  survey_other s call.TakeBack grow reopen = survey_idle s call.TakeBack (λ net r. tt)
+  survey_other s call.Seal grow reopen = survey_idle s call.Seal (λ net r. tt)
+  survey_other s call.Grow grow reopen = absurd (grow refl)
+  survey_other s (call.Count v k) grow reopen = survey_idle s (call.Count v k) (λ net r. tt)
+  survey_other s (call.Member v k i) grow reopen = survey_idle s (call.Member v k i) (λ net r. tt)
+  survey_other s (call.Next v k floor) grow reopen = survey_idle s (call.Next v k floor) (λ net r. tt)
+  survey_other s (call.Distance v to) grow reopen = survey_idle s (call.Distance v to) (λ net r. tt)
+  survey_other s call.Reopen grow reopen = absurd (reopen refl)
 
 -- one call more at the end
 plays_more : {L M : Type 0} (G : Group M) (stands : L → M) (room space : ℕ) (c : Call L) {cs : List (Call L)} {n m k : Stage M} → Plays G stands room space cs n m → Turns G stands room space c m k → Plays G stands room space (cs ++ (c ∷ [])) n k

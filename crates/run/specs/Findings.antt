@@ -1,5 +1,5 @@
 -- What every survey answers that calls reach. Assumes nothing.
-use Rattle.std.specs.Prelude.{◌≡◌, ℕ, suc, ◌^◌, ◌<◌, ◌≤◌, ◌↔◌, List, map, length, Some, Ok, Err, Option, Result}
+use Rattle.std.specs.Prelude.{◌≡◌, ℕ, suc, ◌^◌, ◌<◌, ◌≤◌, ◌↔◌, List, map, length, Some, None, Ok, Err, Option, Result}
 use Rattle.std.specs.List.{slice_get}
 use Rattle.label.specs.Group.{Group}
 use Rattle.label.specs.Order.{Order}
@@ -17,8 +17,6 @@ use Rattle.survey.specs.declared.records.Record.{Record}
 use Rattle.survey.specs.declared.surveys.Survey.{Survey}
 use Rattle.survey.specs.declared.refusals.SurveyRefusal.{SurveyRefusal}
 use Rattle.survey.specs.declared.refusals.SurveyRefusal.TheVariants.{PoolFull, NoSuchMember}
-use Rattle.survey.specs.declared.refusals.Reach.{Reach}
-use Rattle.survey.specs.declared.refusals.Reach.TheVariants.{At, Beyond}
 use Rattle.run.specs.Stage.{surveyed}
 use Rattle.run.specs.Run.{Run}
 use Rattle.run.specs.declared.state.State.TheVariants.{Surveying}
@@ -37,12 +35,12 @@ module _ {L M : Type 0} (G : Group M) (O : Order M) (stands : L → M) where
     pub carried : (h : M) → Exactly (Distance (Link G net) k (mesh.spot v h)) (map (mesh.carry G h) members)
     pub ascend : (i j : ℕ) (b c : mesh.Junction M) → i < j → slice_get members i ≡ Some b → slice_get members j ≡ Some c → Before G O stands b c
 
-  -- the answer of `distance` is the distance, if that is within the radius, and `Beyond` exactly if it is not
-  pub record DistanceTold (net : Net M) (r v : ℕ) (j : Junction L) (a : Result Reach SurveyRefusal) : Type 0 where
-    pub reach : Reach
+  -- the answer of `distance` is the distance, if that is within the radius, and none exactly if it is not
+  pub record DistanceTold (net : Net M) (r v : ℕ) (j : Junction L) (a : Result (Option ℕ) SurveyRefusal) : Type 0 where
+    pub reach : Option ℕ
     pub answer : a ≡ Ok reach
-    pub at : (k : ℕ) → (reach ≡ At k) ↔ ((k ≤ r) × Distance (Link G net) k (mesh.home G v) (junction_of stands j))
-    pub beyond : (reach ≡ Beyond) ↔ (Within (Link G net) r (mesh.home G v) (junction_of stands j) → ⊥)
+    pub at : (k : ℕ) → (reach ≡ Some k) ↔ ((k ≤ r) × Distance (Link G net) k (mesh.home G v) (junction_of stands j))
+    pub beyond : (reach ≡ None) ↔ (Within (Link G net) r (mesh.home G v) (junction_of stands j) → ⊥)
 
   -- below the greatest radius, growing is refused exactly if the next balls, summed over all nodes, outnumber the records
   pub record RoomTold (net : Net M) (r : ℕ) (records : ℕ) (a : Result Unit SurveyRefusal) : Type 0 where
@@ -55,7 +53,7 @@ module _ {L M : Type 0} (G : Group M) (O : Order M) (stands : L → M) where
   pub record Findings (net : Net M) (r : ℕ) (s : Survey) (list : List (Line L)) (pool : List (Record L)) : Type 0 where
     pub shells : (v k : ℕ) → v < net.nodes → k ≤ r → (counted : Result ℕ SurveyRefusal) → CountClause G O stands s list pool v k counted → (member : ℕ → Result (Junction L) SurveyRefusal) → ((i : ℕ) → i < 2 ^ 32 → MemberClause G O stands s list pool v k i (member i)) → ShellTold net v k counted member
     pub nexts : (v k : ℕ) → v < net.nodes → k ≤ r → (floor : Junction L) (a : Result (Option (Junction L)) SurveyRefusal) → NextClause G O stands s list pool v k floor a → (found : Option (Junction L)) × (a ≡ Ok found) × Next G O stands net v k (junction_of stands floor) found
-    pub distances : (v : ℕ) (j : Junction L) → v < net.nodes → j.node < net.nodes → (a : Result Reach SurveyRefusal) → DistanceClause G O stands s list pool v j a → DistanceTold net r v j a
+    pub distances : (v : ℕ) (j : Junction L) → v < net.nodes → j.node < net.nodes → (a : Result (Option ℕ) SurveyRefusal) → DistanceClause G O stands s list pool v j a → DistanceTold net r v j a
     pub room : r < 16 → (a : Result Unit SurveyRefusal) (s' : Survey) (pool' : List (Record L)) → GrowClause G O stands s list pool a s' pool' → RoomTold net r (length pool) a
 
   -- whichever calls reach the survey

@@ -13,7 +13,6 @@ use Rattle.survey.specs.declared.records.Junction.{Junction}
 use Rattle.survey.specs.declared.records.Record.{Record}
 use Rattle.survey.specs.declared.surveys.Survey.{Survey}
 use Rattle.survey.specs.declared.refusals.SurveyRefusal.{SurveyRefusal}
-use Rattle.survey.specs.declared.refusals.Reach.{Reach}
 use Rattle.run.specs.Stage.{Stage, drawing, surveyed}
 use Rattle.run.specs.After.{blank_net, after_line, after_back, after_seal, after_grow, after_reopen, held_sealed, held_reopened}
 use Rattle.run.specs.declared.state.State.{State}
@@ -38,7 +37,7 @@ module _ {L M : Type 0} (G : Group M) (O : Order M) (stands : L → M) where
     membered_elsewhere : (net : Net M) (r : ℕ) (s : Survey) (list other : List (Line L)) (pool fresh : List (Record L)) (v k i : ℕ) (a : Result (Junction L) SurveyRefusal) → Run (surveyed net r) (Surveying s) list pool → Strange s (length other) (length fresh) → MemberClause G O stands s other fresh v k i a → Run (surveyed net r) (Surveying s) list pool
     nexted : (net : Net M) (r : ℕ) (s : Survey) (list : List (Line L)) (pool : List (Record L)) (v k : ℕ) (floor : Junction L) (a : Result (Option (Junction L)) SurveyRefusal) → Run (surveyed net r) (Surveying s) list pool → NextClause G O stands s list pool v k floor a → Run (surveyed net r) (Surveying s) list pool
     nexted_elsewhere : (net : Net M) (r : ℕ) (s : Survey) (list other : List (Line L)) (pool fresh : List (Record L)) (v k : ℕ) (floor : Junction L) (a : Result (Option (Junction L)) SurveyRefusal) → Run (surveyed net r) (Surveying s) list pool → Strange s (length other) (length fresh) → NextClause G O stands s other fresh v k floor a → Run (surveyed net r) (Surveying s) list pool
-    measured : (net : Net M) (r : ℕ) (s : Survey) (list : List (Line L)) (pool : List (Record L)) (v : ℕ) (j : Junction L) (a : Result Reach SurveyRefusal) → Run (surveyed net r) (Surveying s) list pool → DistanceClause G O stands s list pool v j a → Run (surveyed net r) (Surveying s) list pool
-    measured_elsewhere : (net : Net M) (r : ℕ) (s : Survey) (list other : List (Line L)) (pool fresh : List (Record L)) (v : ℕ) (j : Junction L) (a : Result Reach SurveyRefusal) → Run (surveyed net r) (Surveying s) list pool → Strange s (length other) (length fresh) → DistanceClause G O stands s other fresh v j a → Run (surveyed net r) (Surveying s) list pool
+    measured : (net : Net M) (r : ℕ) (s : Survey) (list : List (Line L)) (pool : List (Record L)) (v : ℕ) (j : Junction L) (a : Result (Option ℕ) SurveyRefusal) → Run (surveyed net r) (Surveying s) list pool → DistanceClause G O stands s list pool v j a → Run (surveyed net r) (Surveying s) list pool
+    measured_elsewhere : (net : Net M) (r : ℕ) (s : Survey) (list other : List (Line L)) (pool fresh : List (Record L)) (v : ℕ) (j : Junction L) (a : Result (Option ℕ) SurveyRefusal) → Run (surveyed net r) (Surveying s) list pool → Strange s (length other) (length fresh) → DistanceClause G O stands s other fresh v j a → Run (surveyed net r) (Surveying s) list pool
     reopened : (net : Net M) (r : ℕ) (s : Survey) (list : List (Line L)) (pool : List (Record L)) (a : Result Draft (SurveyRefusal × Survey)) → Run (surveyed net r) (Surveying s) list pool → ReopenClause G O stands s list pool a → Run (after_reopen net r a) (held_reopened a) list pool
     reopened_elsewhere : (net : Net M) (r : ℕ) (s : Survey) (list other : List (Line L)) (pool fresh : List (Record L)) (a : Result Draft (SurveyRefusal × Survey)) → Run (surveyed net r) (Surveying s) list pool → Strange s (length other) (length fresh) → ReopenClause G O stands s other fresh a → Run (surveyed net r) (held_reopened a) list pool

@@ -6,6 +6,9 @@ use net::{Draft, Line};
 use survey::{Record, Survey};
 
 // Makes a call on a draft. A call that is for surveys is left out.
+// The list and the pool are lent anew at each call, by a rule of the project, and so stand side by side here too.
+// A call is a value that is matched, since the theorems range over lists of calls.
+#[tactic(auto, using(crate::proofs::Turns::draft_other))]
 fn turn_draft<L: Label>(
     draft: Draft,
     call: Call<L>,
@@ -14,33 +17,25 @@ fn turn_draft<L: Label>(
 ) -> State
     ensures { TurnClause L.Label.group L.Label.order L.Label.stands (State.Drafting draft) call list.old pool.old result list.new pool.new }
 {
-    let mut d = draft;
+    let mut draft = draft;
     match call {
         Call::Line(line) => {
-            let _ = d.line(list, line);
-            State::Drafting(d)
+            let _ = draft.line(list, line);
         }
         Call::TakeBack => {
-            let _ = d.take_back(list);
-            State::Drafting(d)
+            let _ = draft.take_back(list);
         }
-        Call::Seal => match Survey::seal(d, list, pool) {
-            Ok(s) => State::Surveying(s),
-            Err(back) => {
-                let (_, d) = back;
-                State::Drafting(d)
-            }
+        Call::Seal => match Survey::seal(draft, list, pool) {
+            Ok(survey) => return State::Surveying(survey),
+            Err((_, refused)) => draft = refused,
         },
-        Call::Grow => State::Drafting(d),
-        Call::Count(_, _) => State::Drafting(d),
-        Call::Member(_, _, _) => State::Drafting(d),
-        Call::Next(_, _, _) => State::Drafting(d),
-        Call::Distance(_, _) => State::Drafting(d),
-        Call::Reopen => State::Drafting(d),
+        _ => {}
     }
+    State::Drafting(draft)
 }
 
 // Makes a call on a survey. A call that is for drafts is left out, and what a question is answered is not told.
+#[tactic(auto, using(crate::proofs::Turns::survey_idle, crate::proofs::Turns::survey_other))]
 fn turn_survey<L: Label>(
     survey: Survey,
     call: Call<L>,
@@ -49,42 +44,37 @@ fn turn_survey<L: Label>(
 ) -> State
     ensures { TurnClause L.Label.group L.Label.order L.Label.stands (State.Surveying survey) call list.old pool.old result list.new pool.new }
 {
-    let mut s = survey;
+    let mut survey = survey;
     match call {
-        Call::Line(_) => State::Surveying(s),
-        Call::TakeBack => State::Surveying(s),
-        Call::Seal => State::Surveying(s),
         Call::Grow => {
-            let _ = s.grow(list, pool);
-            State::Surveying(s)
+            let _ = survey.grow(list, pool);
         }
-        Call::Count(v, k) => {
-            let _ = s.count(list, pool, v, k);
-            State::Surveying(s)
+        Call::Count { node, shell } => {
+            let _ = survey.count(list, pool, node, shell);
         }
-        Call::Member(v, k, i) => {
-            let _ = s.member(list, pool, v, k, i);
-            State::Surveying(s)
+        Call::Member {
+            node,
+            shell,
+            before,
+        } => {
+            let _ = survey.member(list, pool, node, shell, before);
         }
-        Call::Next(v, k, floor) => {
-            let _ = s.next_member(list, pool, v, k, floor);
-            State::Surveying(s)
+        Call::Next { node, shell, floor } => {
+            let _ = survey.next_member(list, pool, node, shell, floor);
         }
-        Call::Distance(v, to) => {
-            let _ = s.distance(list, pool, v, to);
-            State::Surveying(s)
+        Call::Distance { node, to } => {
+            let _ = survey.distance(list, pool, node, to);
         }
-        Call::Reopen => match s.reopen(list, pool) {
-            Ok(d) => State::Drafting(d),
-            Err(back) => {
-                let (_, s) = back;
-                State::Surveying(s)
-            }
+        Call::Reopen => match survey.reopen(list, pool) {
+            Ok(draft) => return State::Drafting(draft),
+            Err((_, refused)) => survey = refused,
         },
+        _ => {}
     }
+    State::Surveying(survey)
 }
 
-// Makes a call on a net.
+// Makes a call on a net: a draft and a survey take different calls.
 fn turn<L: Label>(
     state: State,
     call: Call<L>,
@@ -94,8 +84,8 @@ fn turn<L: Label>(
     ensures { TurnClause L.Label.group L.Label.order L.Label.stands state call list.old pool.old result list.new pool.new }
 {
     match state {
-        State::Drafting(d) => turn_draft(d, call, list, pool),
-        State::Surveying(s) => turn_survey(s, call, list, pool),
+        State::Drafting(draft) => turn_draft(draft, call, list, pool),
+        State::Surveying(survey) => turn_survey(survey, call, list, pool),
     }
 }
 

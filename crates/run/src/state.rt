@@ -1,7 +1,7 @@
 use net::{Draft, Line};
 use survey::{Junction, Survey};
 
-// A net between two calls: it is drawn, or it is surveyed.
+// A net between two calls: it is drawn, or it is surveyed. No Result: neither is a failure.
 #[derive(Drop)]
 pub enum State {
     Drafting(Draft),
@@ -9,18 +9,31 @@ pub enum State {
 }
 
 // A call on a net. A draft takes the first three, a survey the others.
+// Lists of calls are what the theorems range over, so a call is a value, and no closure.
 #[derive(Clone, Copy)]
 pub enum Call<L> {
     Line(Line<L>),
     TakeBack,
     Seal,
     Grow,
-    // the node and the distance of the shell
-    Count(u32, u32),
-    // the node and the distance of the shell, and how many members lie below
-    Member(u32, u32, u32),
-    // the node and the distance of the shell, and the floor
-    Next(u32, u32, Junction<L>),
-    Distance(u32, Junction<L>),
+    Count {
+        node: u32,
+        shell: u32,
+    },
+    // the member with so many others before it
+    Member {
+        node: u32,
+        shell: u32,
+        before: u32,
+    },
+    Next {
+        node: u32,
+        shell: u32,
+        floor: Junction<L>,
+    },
+    Distance {
+        node: u32,
+        to: Junction<L>,
+    },
     Reopen,
 }

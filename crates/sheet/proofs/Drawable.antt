@@ -8,11 +8,11 @@ use Rattle.mesh.specs.Net.{Line}
 use Rattle.mesh.specs.Drawn.{Allowed, Drawing, blank, draw}
 use Rattle.net.specs.Verdict.{NoneOf}
 use Rattle.net.specs.Rules.{LineBreaks, line_rules}
-use Rattle.sheet.specs.Stored.{Small, text}
+use Rattle.sheet.specs.Stored.{stored, Small, text}
 use Rattle.sheet.specs.Codes.{codes}
 use Rattle.sheet.specs.Sheet.{label_codes, line_numbers}
 use Rattle.sheet.specs.Faults.{ALine}
-use Rattle.sheet.proofs.Places.{text_append}
+use Rattle.std.proofs.lemmas.Grind.{flat_map-append}
 
 -- a list with an element has a last one
 last_one : {X : Type 0} (x : X) (xs : List X) → (ys : List X) × ((y : X) × (x ∷ xs ≡ ys ++ (y ∷ [])))
@@ -60,6 +60,6 @@ module _ {M : Type 0} (F : Form M) (G : Group M) (nodes : ℕ) where
           numbers = w.0;
           ranges = back.0;
           label = back.1;
-          bytes = ap (λ cs. text (cs ++ ns) ++ rest) codes_are ∙ ap (λ t. t ++ rest) (text_append (codes F.slots w.0) ns) ∙ append_assoc (text (codes F.slots w.0)) (text ns) rest;
+          bytes = ap (λ cs. text (cs ++ ns) ++ rest) codes_are ∙ ap (λ t. t ++ rest) (flat_map-append stored (codes F.slots w.0) ns) ∙ append_assoc (text (codes F.slots w.0)) (text ns) rest;
         };
       }

@@ -1,8 +1,8 @@
 -- Reading a label: its numbers, and then what they stand for.
-use Rattle.std.proofs.Common.{◌≡◌, ℕ, suc, ◌-◌, ◌≤◌, Bool, true, false, List, [], ◌∷◌, ◌++◌, length, take, drop, ℤ, Some, None, Ok, Err, Option, Result, sym, refl, ap, ◌∙◌, subst, append_assoc, append-nil}
-use mathlib.Core.List.{append_cancel_left}
+use Rattle.std.proofs.Common.{◌≡◌, ℕ, ◌+◌, ◌-◌, ◌≤◌, Bool, true, false, List, [], ◌∷◌, ◌++◌, length, take, drop, ℤ, Some, None, Ok, Err, Option, Result, sym, refl, ap, ◌∙◌, subst, append-nil}
 use Rattle.std.specs.List.{slice_get}
-use Rattle.std.proofs.lemmas.List.{take-append-drop}
+use Rattle.std.proofs.lemmas.List.{take-append-drop, drop_more}
+use Rattle.std.proofs.lemmas.Option.{slice_get_within, get_or_from_slice_get}
 use Rattle.std.proofs.lemmas.Bool.{and_parts}
 use Rattle.label.specs.Form.{Form, fit, storable}
 use Rattle.label.specs.Fits.{storable_append}
@@ -13,15 +13,13 @@ use Rattle.sheet.specs.Codes.{codes}
 use Rattle.sheet.specs.Faults.{at_place, NoLabel, unread, outside, unwritable, meaningless, ALabel}
 use Rattle.sheet.specs.declared.faults.SheetFault.{SheetFault}
 use Rattle.sheet.specs.declared.faults.SheetFault.TheVariants as sheet
-use Rattle.sheet.proofs.Slots.{nth_some, take_nth}
+use Rattle.sheet.proofs.Slots.{nth_some}
 use Rattle.sheet.proofs.Readers.{One, stops, goes}
 use Rattle.sheet.proofs.NumberReader.{some, place_after, none_after}
 use Rattle.sheet.proofs.SlotReader.{ASlot, untold, Slots, slots_one, slots_read}
 
-drop_nth : {X : Type 0} (xs : List X) (i : ℕ) (x : X) → slice_get xs i ≡ Some x → drop i xs ≡ x ∷ drop (suc i) xs
-drop_nth xs i x e =
-    append_cancel_left (take i xs) (drop i xs) (x ∷ drop (suc i) xs)
-    (take-append-drop i xs ∙ sym (take-append-drop (suc i) xs) ∙ ap (λ q. q ++ drop (suc i) xs) (take_nth xs i x e) ∙ append_assoc (take i xs) (x ∷ []) (drop (suc i) xs))
+drop_nth : {X : Type 0} (xs : List X) (i : ℕ) (x : X) → slice_get xs i ≡ Some x → drop i xs ≡ x ∷ drop (i + 1) xs
+drop_nth xs i x e = drop_more xs i x (slice_get_within xs i x e) ∙ ap (λ y. y ∷ drop (i + 1) xs) (get_or_from_slice_get xs i x x e)
 
 module _ {M : Type 0} (F : Form M) (end : ℕ) where
   -- what numbers in their ranges come to, which began at a place
@@ -51,7 +49,7 @@ module _ {M : Type 0} (F : Form M) (end : ℕ) where
       let first = take k F.slots in
       let later = drop k F.slots in
       let st : storable (first ++ later) ≡ true = subst (λ (ss : List Slot). storable ss ≡ true) (sym (take-append-drop k F.slots)) F.stored in
-      let split : later ≡ s ∷ drop (suc k) F.slots = drop_nth F.slots k s at in
+      let split : later ≡ s ∷ drop (k + 1) F.slots = drop_nth F.slots k s at in
       subst (λ (ss : List Slot). Slots end ss (Meant bs) bs (Err f)) (take-append-drop k F.slots)
       (slots_read end first later xs (Meant bs) bs rest (Err f) (and_parts (storable first) (storable later) (sym (storable_append first later) ∙ st)).0 fits e
       (subst (λ (ts : List Slot). Slots end ts (λ ys. Meant bs (xs ++ ys)) rest (Err f)) (sym split) (stops f slot)))

@@ -1,8 +1,7 @@
 mod Groups
-mod Rests
+mod Beginnings
 mod Places
 mod Coded
-mod Options
 mod Slots
 mod Readings
 mod Spelled

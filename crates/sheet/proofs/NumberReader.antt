@@ -7,7 +7,7 @@ use Rattle.sheet.specs.declared.faults.BytesFault.{BytesFault}
 use Rattle.sheet.specs.declared.faults.BytesFault.TheVariants as bytes
 use Rattle.sheet.specs.declared.faults.SheetFault.{SheetFault}
 use Rattle.sheet.specs.declared.faults.SheetFault.TheVariants as sheet
-use Rattle.sheet.proofs.Places.{text_append}
+use Rattle.std.proofs.lemmas.Grind.{flat_map-append}
 use Rattle.sheet.proofs.Decoding.{front, front_cut, front_malformed, front_stored}
 use Rattle.sheet.proofs.Readers.{ok_err, One}
 
@@ -58,4 +58,4 @@ module _ (all : List ℕ) where
   place_at s rest e = let n = ap length e ∙ length-append s rest in omega arith
 
   pub place_between : (ns ms rest : List ℕ) → all ≡ text (ns ++ ms) ++ rest → length (text ns) ≡ length all - length (text ms ++ rest)
-  place_between ns ms rest e = place_at (text ns) (text ms ++ rest) (e ∙ ap (λ t. t ++ rest) (text_append ns ms) ∙ append_assoc (text ns) (text ms) rest)
+  place_between ns ms rest e = place_at (text ns) (text ms ++ rest) (e ∙ ap (λ t. t ++ rest) (flat_map-append stored ns ms) ∙ append_assoc (text ns) (text ms) rest)

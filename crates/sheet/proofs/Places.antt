@@ -7,10 +7,6 @@ use Rattle.sheet.specs.Reading.{NumberAt, NumbersAt}
 pub text_push : (ns : List ℕ) (n : ℕ) → text (ns ++ (n ∷ [])) ≡ text ns ++ stored n
 text_push ns n = sym (flat_map_more stored [] ns n)
 
-pub text_append : (ns ms : List ℕ) → text (ns ++ ms) ≡ text ns ++ text ms
-text_append [] ms = refl
-text_append (n ∷ ns) ms = ap (λ (t : List ℕ). stored n ++ t) (text_append ns ms) ∙ sym (append_assoc (stored n) (text ns) (text ms))
-
 module _ (bytes : List ℕ) (place : ℕ) where
   pub numbers_none : place ≤ length bytes → NumbersAt bytes place [] place
   numbers_none h = record { bytes_are = refl; next_is = sym (add-zero place); within = h }

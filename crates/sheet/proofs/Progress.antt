@@ -1,6 +1,6 @@
 -- A sheet read as far as some of its lines.
-use Rattle.std.proofs.Common.{◌≡◌, ℕ, ◌+◌, ◌<◌, ◌≤◌, ◌≢◌, List, [], ◌∷◌, ◌++◌, length, drop, ℤ, Some, unwrap_or, sym, refl, ap, ◌∙◌, subst, append_assoc, zero-add, arith, length-append, length-set}
-use Rattle.std.proofs.lemmas.List.{append-nil, drop_all, drop-drop, drop-set-lt, flat_map_more, length-drop}
+use Rattle.std.proofs.Common.{◌≡◌, ℕ, ◌+◌, ◌<◌, ◌≢◌, List, [], ◌∷◌, ◌++◌, length, drop, ℤ, Some, unwrap_or, sym, refl, ap, ◌∙◌, subst, append_assoc, zero-add, arith, length-append, length-set}
+use Rattle.std.proofs.lemmas.List.{drop-drop, drop-set-lt, flat_map_more, length-drop}
 use Rattle.label.specs.Group.{Group}
 use Rattle.label.specs.Form.{Form}
 use Rattle.mesh.specs.Net as mesh
@@ -11,25 +11,25 @@ use Rattle.net.specs.Rules.{LineBreaks, line_rules}
 use Rattle.net.proofs.Steps.{lines_count}
 use Rattle.net.specs.declared.records.Line.{Line}
 use Rattle.net.specs.declared.drafts.Draft.{Draft}
-use Rattle.sheet.specs.Stored.{text}
+use Rattle.sheet.specs.Stored.{stored, text}
 use Rattle.sheet.specs.Codes.{codes}
 use Rattle.sheet.specs.Sheet.{line_numbers, numbers_so_far, AllWritten}
 use Rattle.sheet.specs.Faults as faults
 use Rattle.sheet.specs.Faults.{at_place, NodesOut, CountOut, NoLine, Begins, Refused}
 use Rattle.sheet.specs.Reading.{NumbersAt, HeadingAt, LineAt, Drew, NoDraw, unread_line, refused_line}
-use Rattle.sheet.specs.Clauses.{WasRead, WasRefused}
-use Rattle.sheet.specs.declared.numbers.Heading.{Heading}
+use Rattle.sheet.specs.Clauses.{WasRefused}
+use Rattle.sheet.specs.declared.reader.Heading.{Heading}
 use Rattle.sheet.specs.declared.faults.SheetFault.{SheetFault}
 use Rattle.sheet.specs.declared.faults.SheetFault.TheVariants as fault
 use Rattle.sheet.specs.declared.faults.BytesFault.TheVariants as bytes
-use Rattle.sheet.proofs.Places.{text_append}
+use Rattle.std.proofs.lemmas.Grind.{flat_map-append}
 
 -- numbers after numbers
 numbers_append : (bs : List ℕ) (place p q : ℕ) (ns ms : List ℕ) → NumbersAt bs place ns p → NumbersAt bs p ms q → NumbersAt bs place (ns ++ ms) q
 numbers_append bs place p q ns ms a b = record {
-  bytes_are = a.bytes_are ∙ ap (λ (r : List ℕ). text ns ++ r) b.bytes_are ∙ sym (append_assoc (text ns) (text ms) (drop q bs)) ∙ ap (λ (t : List ℕ). t ++ drop q bs) (sym (text_append ns ms));
+  bytes_are = a.bytes_are ∙ ap (λ (r : List ℕ). text ns ++ r) b.bytes_are ∙ sym (append_assoc (text ns) (text ms) (drop q bs)) ∙ ap (λ (t : List ℕ). t ++ drop q bs) (sym (flat_map-append stored ns ms));
   next_is =
-      let long : length (text (ns ++ ms)) ≡ length (text ns) + length (text ms) = ap length (text_append ns ms) ∙ length-append (text ns) (text ms) in
+      let long : length (text (ns ++ ms)) ≡ length (text ns) + length (text ms) = ap length (flat_map-append stored ns ms) ∙ length-append (text ns) (text ms) in
       omega (arith, a.next_is, b.next_is, long);
   within = b.within;
 }
@@ -52,7 +52,7 @@ module _ {L M : Type 0} (G : Group M) (F : Form M) (stands : L → M) where
       let told : F.tells (stands l.label) ≡ Some xs = F.again xs (stands l.label) a.label.ranges a.label.label in
       let same : codes F.slots xs ≡ codes F.slots (unwrap_or (F.tells (stands l.label)) []) = ap (λ o. codes F.slots (unwrap_or o [])) (sym told) in
       let whole : NumbersAt bs place (l.tail ∷ l.head ∷ ns) next = record {
-        bytes_are = a.ends ∙ ap (λ (r : List ℕ). text (l.tail ∷ l.head ∷ []) ++ r) a.label.bytes ∙ sym (append_assoc (text (l.tail ∷ l.head ∷ [])) (text ns) (drop next bs)) ∙ ap (λ (t : List ℕ). t ++ drop next bs) (sym (text_append (l.tail ∷ l.head ∷ []) ns));
+        bytes_are = a.ends ∙ ap (λ (r : List ℕ). text (l.tail ∷ l.head ∷ []) ++ r) a.label.bytes ∙ sym (append_assoc (text (l.tail ∷ l.head ∷ [])) (text ns) (drop next bs)) ∙ ap (λ (t : List ℕ). t ++ drop next bs) (sym (flat_map-append stored (l.tail ∷ l.head ∷ []) ns));
         next_is = at.next_is;
         within = at.within;
       } in
@@ -134,23 +134,9 @@ module _ {L M : Type 0} (G : Group M) (F : Form M) (stands : L → M) where
           refused (subst (λ (p : ℕ). Refused F G kind (length list0) bs (lines_of stands d.lines list) (fault.Bytes (at_place bytes.LeftOver p))) placed
           (faults.left_over d.nodes count (lines_of stands d.lines list) (drop place bs) begins (many_lines ∙ u.many ∙ e) some))
 
-      -- all is read
-      pub underway_done : k ≡ count → length bs ≤ place → WasRead G F stands kind bs list0 d list
-      underway_done e h = record {
-        bytes_are =
-            u.numbers.bytes_are ∙ ap (λ (r : List ℕ). text (numbers_so_far F kind d.nodes count (lines_of stands d.lines list)) ++ r) (drop_all place bs h)
-            ∙ append-nil (text (numbers_so_far F kind d.nodes count (lines_of stands d.lines list)))
-            ∙ ap (λ (m : ℕ). text (numbers_so_far F kind d.nodes m (lines_of stands d.lines list))) (sym (many_lines ∙ u.many ∙ e));
-        written = u.written;
-        drawn = u.drawn;
-        room = u.room;
-        long = u.long;
-        past = u.past;
-      }
-
   -- after the heading
-  pub underway_none : (kind : ℕ) (bs : List ℕ) (list : List (Line L)) (h : Heading) → HeadingAt kind bs list h → Underway kind bs list h.lines h.draft list 0 h.next
-  underway_none kind bs list h at =
+  pub underway_none : (kind : ℕ) (bs : List ℕ) (list : List (Line L)) (h : Heading) (next : ℕ) → HeadingAt kind bs list h next → Underway kind bs list h.lines h.draft list 0 next
+  underway_none kind bs list h next at =
       let none : lines_of stands h.draft.lines list ≡ [] = ap (λ (n : ℕ). lines_of stands n list) at.blank in
       record {
         nodes_in = at.nodes_in;
@@ -160,6 +146,6 @@ module _ {L M : Type 0} (G : Group M) (F : Form M) (stands : L → M) where
         many = at.blank;
         drawn = subst (λ (ls : List (mesh.Line M)). Drawn G (record { nodes = h.draft.nodes; lines = ls })) (sym none) blank;
         written = subst (AllWritten F) (sym none) tt;
-        numbers = subst (λ (ls : List (mesh.Line M)). NumbersAt bs 0 (numbers_so_far F kind h.draft.nodes h.lines ls) h.next) (sym none) at.numbers;
+        numbers = subst (λ (ls : List (mesh.Line M)). NumbersAt bs 0 (numbers_so_far F kind h.draft.nodes h.lines ls) next) (sym none) at.numbers;
         past = refl;
       }

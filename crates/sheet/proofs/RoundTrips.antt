@@ -16,7 +16,7 @@ use Rattle.sheet.specs.Sheet.{sheet, AllWritten}
 use Rattle.sheet.specs.Clauses.{WasRead, WasRefused, ReadSheet, WriteBreaks, write_rules}
 use Rattle.sheet.specs.RoundTrip.{WrittenAgain, ReadAgain, OneNet, OneAnswer}
 use Rattle.sheet.specs.declared.faults.SheetFault.{SheetFault}
-use Rattle.sheet.specs.declared.faults.WriteRefusal.{WriteRefusal}
+use Rattle.sheet.specs.declared.refusals.WriteRefusal.{WriteRefusal}
 use Rattle.sheet.proofs.Readers.{ok_err}
 use Rattle.sheet.proofs.SheetReader.{Reads, reads_one, refused_reads, whole_reads}
 

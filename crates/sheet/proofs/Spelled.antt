@@ -1,5 +1,5 @@
 -- A label's numbers as they are read, one after another.
-use Rattle.std.proofs.Common.{◌≡◌, ℕ, ◌+◌, ◌<◌, ◌≤◌, true, false, List, [], ◌∷◌, ◌++◌, length, take, drop, set, ℤ, Some, Ok, Err, sym, ap, ◌∙◌, subst, inl, inr, add-one}
+use Rattle.std.proofs.Common.{◌≡◌, ℕ, ◌+◌, ◌<◌, ◌≤◌, true, false, List, [], ◌∷◌, ◌++◌, length, take, drop, set, ℤ, Some, Ok, Err, sym, ap, ◌∙◌, subst, inl, inr, arith}
 use Rattle.std.specs.List.{slice_get}
 use Rattle.std.proofs.lemmas.List.{take_more_set, take_all}
 use Rattle.std.proofs.lemmas.Bool.{and_cases, both_ways}
@@ -28,7 +28,7 @@ module _ {M : Type 0} (F : Form M) (bytes : List ℕ) (place : ℕ) where
   -- one number more
   pub spelled_more : (i : ℕ) (xs : List ℤ) (next : ℕ) (s : Slot) (x : ℤ) (q : ℕ) → i < length xs → slice_get F.slots i ≡ Some s → Spelled i xs next → SlotNumberAt bytes next s x q → Spelled (i + 1) (set xs i x) q
   spelled_more i xs next s x q h e before one =
-      let slots : take (i + 1) F.slots ≡ take i F.slots ++ (s ∷ []) = ap (λ (k : ℕ). take k F.slots) (add-one i) ∙ take_nth F.slots i s e in
+      let slots : take (i + 1) F.slots ≡ take i F.slots ++ (s ∷ []) = take_nth F.slots i s e in
       let more : take (i + 1) (set xs i x) ≡ take i xs ++ (x ∷ []) = take_more_set xs i x h in
       let told : codes (take (i + 1) F.slots) (take (i + 1) (set xs i x)) ≡ codes (take i F.slots) (take i xs) ++ (code s.storage x ∷ []) =
       ap (λ (ss : List Slot). codes ss (take (i + 1) (set xs i x))) slots ∙ ap (codes (take i F.slots ++ (s ∷ []))) more ∙ codes_push (take i F.slots) (take i xs) s x before.fits in
@@ -51,12 +51,13 @@ module _ {M : Type 0} (F : Form M) (bytes : List ℕ) (place : ℕ) where
     pub fits : fit F.slots xs ≡ true
     pub at : NumbersAt bytes place (codes F.slots xs) next
 
-  pub spelled_all : (i : ℕ) (xs : List ℤ) (next : ℕ) → length F.slots ≤ i → Spelled i xs next → SpelledOut (take i xs) next
-  spelled_all i xs next h before =
-      let all : take i F.slots ≡ F.slots = take_all i F.slots h in
+  pub spelled_all : (i : ℕ) (xs : List ℤ) (next : ℕ) → length xs ≡ length F.slots → length xs ≤ i → Spelled i xs next → SpelledOut xs next
+  spelled_all i xs next long h before =
+      let all : take i F.slots ≡ F.slots = take_all i F.slots (omega arith) in
+      let same : take i xs ≡ xs = take_all i xs h in
       record {
-        fits = subst (λ (ss : List Slot). fit ss (take i xs) ≡ true) all before.fits;
-        at = subst (λ (ss : List Slot). NumbersAt bytes place (codes ss (take i xs)) next) all before.at;
+        fits = ap (λ (ss : List Slot). fit ss xs) (sym all) ∙ ap (fit (take i F.slots)) (sym same) ∙ before.fits;
+        at = subst (λ (ss : List Slot). NumbersAt bytes place (codes ss xs) next) all (subst (λ (ys : List ℤ). NumbersAt bytes place (codes (take i F.slots) ys) next) same before.at);
       }
 
   module _ {L : Type 0} (stands : L → M) (xs : List ℤ) (next : ℕ) (out : SpelledOut xs next) where

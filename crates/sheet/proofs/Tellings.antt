@@ -1,28 +1,28 @@
 -- The numbers of a written label as they are stored, by their places.
-use Rattle.std.proofs.Common.{◌≡◌, ℕ, zero, suc, List, [], ◌∷◌, get_or, ℤ, Some, None, Ok, Err, Option, unwrap_or, sym, refl, ap, ◌∙◌, arith}
+use Rattle.std.proofs.Common.{◌≡◌, ℕ, zero, suc, List, [], ◌∷◌, get_or, ℤ, Some, None, Ok, Err, Option, is_some, is_ok, unwrap_or, sym, refl, ap, ◌∙◌, arith}
 use Rattle.std.specs.List.{slice_get}
 use Rattle.label.specs.Clauses.{written_at}
 use Rattle.label.specs.declared.refusals.NoWrittenForm.{NoWrittenForm}
 use Rattle.label.specs.declared.written.Slot.{Slot}
 use Rattle.sheet.specs.Codes.{code, codes}
-use Rattle.sheet.proofs.Options.{none_some, some_same}
+use Rattle.std.proofs.lemmas.Option.{none-some, same_Some}
 
 codes_at : (ss : List Slot) (xs : List ℤ) (i : ℕ) (s : Slot) (x : ℤ) → slice_get ss i ≡ Some s → slice_get xs i ≡ Some x → get_or (codes ss xs) i 0 ≡ code s.storage x
-codes_at [] xs i s x e f = absurd (none_some e)
-codes_at (t ∷ ss) [] i s x e f = absurd (none_some f)
-codes_at (t ∷ ss) (y ∷ xs) zero s x e f = ap (λ (u : Slot). code u.storage y) (some_same e) ∙ ap (code s.storage) (some_same f)
+codes_at [] xs i s x e f = absurd (none-some _ e)
+codes_at (t ∷ ss) [] i s x e f = absurd (none-some _ f)
+codes_at (t ∷ ss) (y ∷ xs) zero s x e f = ap (λ (u : Slot). code u.storage y) (same_Some _ _ e) ∙ ap (code s.storage) (same_Some _ _ f)
 codes_at (t ∷ ss) (y ∷ xs) (suc i) s x e f = codes_at ss xs i s x e f
 
 codes_past_slots : (ss : List Slot) (xs : List ℤ) (i : ℕ) → slice_get ss i ≡ None → get_or (codes ss xs) i 0 ≡ 0
 codes_past_slots [] xs i e = refl
 codes_past_slots (s ∷ ss) [] i e = refl
-codes_past_slots (s ∷ ss) (x ∷ xs) zero e = absurd (none_some (sym e))
+codes_past_slots (s ∷ ss) (x ∷ xs) zero e = absurd (none-some _ (sym e))
 codes_past_slots (s ∷ ss) (x ∷ xs) (suc i) e = codes_past_slots ss xs i e
 
 codes_past_numbers : (ss : List Slot) (xs : List ℤ) (i : ℕ) → slice_get xs i ≡ None → get_or (codes ss xs) i 0 ≡ 0
 codes_past_numbers [] xs i e = refl
 codes_past_numbers (s ∷ ss) [] i e = refl
-codes_past_numbers (s ∷ ss) (x ∷ xs) zero e = absurd (none_some (sym e))
+codes_past_numbers (s ∷ ss) (x ∷ xs) zero e = absurd (none-some _ (sym e))
 codes_past_numbers (s ∷ ss) (x ∷ xs) (suc i) e = codes_past_numbers ss xs i e
 
 codes_none : (ss : List Slot) (i : ℕ) → get_or (codes ss []) i 0 ≡ 0
@@ -46,10 +46,6 @@ untold ss None i w e = codes_none ss i
 untold ss (Some xs) i w e = absurd (let z : ◌≡◌ {A = ℕ} 0 1 = cc in let v : ⊥ = omega arith in v)
 
 -- the answer at any place says whether the label is written
-pub told : (o : Option (List ℤ)) (i : ℕ) (x : Option ℤ) → written_at o i ≡ Ok x → (xs : List ℤ) × (o ≡ Some xs)
-told None i x e = absurd (let z : ◌≡◌ {A = ℕ} 0 1 = cc in let v : ⊥ = omega arith in v)
-told (Some xs) i x e = (xs, refl)
-
-pub not_told : (o : Option (List ℤ)) (i : ℕ) (w : NoWrittenForm) (xs : List ℤ) → written_at o i ≡ Err w → o ≡ Some xs → ⊥
-not_told None i w xs e f = none_some f
-not_told (Some ys) i w xs e f = let z : ◌≡◌ {A = ℕ} 0 1 = cc in let v : ⊥ = omega arith in v
+pub written_told : (o : Option (List ℤ)) (i : ℕ) → is_ok (written_at o i) ≡ is_some o
+written_told None i = refl
+written_told (Some xs) i = refl

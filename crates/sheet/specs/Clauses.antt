@@ -11,8 +11,8 @@ use Rattle.net.specs.declared.drafts.Draft.{Draft}
 use Rattle.sheet.specs.Sheet.{sheet, AllWritten}
 use Rattle.sheet.specs.Faults.{Refused}
 use Rattle.sheet.specs.declared.faults.SheetFault.{SheetFault}
-use Rattle.sheet.specs.declared.faults.WriteRefusal.{WriteRefusal}
-use Rattle.sheet.specs.declared.faults.WriteRefusal.TheVariants as refusal
+use Rattle.sheet.specs.declared.refusals.WriteRefusal.{WriteRefusal}
+use Rattle.sheet.specs.declared.refusals.WriteRefusal.TheVariants as refusal
 
 module _ {L M : Type 0} (G : Group M) (F : Form M) (stands : L → M) (kind : ℕ) where
   -- a sheet that was read: its bytes are those of the net, which was drawn under the rules; records past its lines are as they were

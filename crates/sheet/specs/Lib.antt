@@ -7,3 +7,4 @@ pub mod Clauses
 pub mod Reading
 pub mod RoundTrip
 pub mod Writing
+pub mod Words

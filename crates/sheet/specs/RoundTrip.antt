@@ -8,7 +8,7 @@ use Rattle.net.specs.declared.records.Line.{Line}
 use Rattle.net.specs.declared.drafts.Draft.{Draft}
 use Rattle.sheet.specs.Clauses.{ReadSheet, WriteSheet}
 use Rattle.sheet.specs.declared.faults.SheetFault.{SheetFault}
-use Rattle.sheet.specs.declared.faults.WriteRefusal.{WriteRefusal}
+use Rattle.sheet.specs.declared.refusals.WriteRefusal.{WriteRefusal}
 
 module _ {L M : Type 0} (G : Group M) (F : Form M) (stands : L → M) (kind : ℕ) where
   -- what reads, written again into an output with room for it, is the same bytes

@@ -1,5 +1,5 @@
 -- The numbers of a sheet: the kind, the nodes, how many lines, and then each line. Assumes nothing.
-use Rattle.std.specs.Prelude.{◌≡◌, ℕ, List, [], ◌∷◌, length, ℤ, Some}
+use Rattle.std.specs.Prelude.{◌≡◌, ℕ, Bool, true, ◌&&◌, List, [], ◌∷◌, length, ℤ, Some, is_some}
 use Rattle.std.specs.Option.{unwrap_or}
 use Rattle.std.specs.List.{flat_map}
 use Rattle.label.specs.Form.{Form}
@@ -31,3 +31,8 @@ module _ {M : Type 0} (F : Form M) where
   abbrev pub AllWritten : List (Line M) → Type 0
   AllWritten [] = Unit {0}
   AllWritten (l ∷ ls) = ((xs : List ℤ) × (F.tells l.label ≡ Some xs)) × AllWritten ls
+
+  -- whether every label of the lines has a written form
+  abbrev pub all_written : List (Line M) → Bool
+  all_written [] = true
+  all_written (l ∷ ls) = is_some (F.tells l.label) && all_written ls

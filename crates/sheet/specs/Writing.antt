@@ -1,20 +1,19 @@
--- What the parts of writing a sheet ask for. Assumes nothing.
-use Rattle.std.specs.Prelude.{◌≡◌, ℕ, List, length}
+-- What the parts of writing a sheet speak of. Assumes nothing.
+use Rattle.std.specs.Prelude.{ℕ, List, map}
 use Rattle.label.specs.Form.{Form}
-use Rattle.net.specs.Model.{net_of}
+use Rattle.mesh.specs.Net.{Net}
+use Rattle.net.specs.Model.{line_of}
 use Rattle.net.specs.declared.records.Line.{Line}
-use Rattle.net.specs.declared.drafts.Draft.{Draft}
-use Rattle.sheet.specs.Sheet.{AllWritten, sheet_numbers, sheet}
+use Rattle.sheet.specs.Sheet.{sheet_numbers, sheet}
 
-module _ {L M : Type 0} (F : Form M) (stands : L → M) (d : Draft) (list : List (Line L)) where
-  -- the list is the draft's, and every label of its lines has a written form
-  pub record Writable : Type 0 where
-    pub room : length list ≡ d.room
-    pub written : AllWritten F (net_of stands d list).lines
+module _ {L M : Type 0} (F : Form M) (stands : L → M) (nodes : ℕ) (list : List (Line L)) where
+  -- the net with these nodes and the records as its lines
+  abbrev pub net_with : Net M
+  net_with = record { nodes = nodes; lines = map (line_of stands) list }
 
   -- the numbers of its sheet, and their bytes
   abbrev pub numbers_of : ℕ → List ℕ
-  numbers_of kind = sheet_numbers F kind (net_of stands d list)
+  numbers_of kind = sheet_numbers F kind net_with
 
   abbrev pub sheet_of : ℕ → List ℕ
-  sheet_of kind = sheet F kind (net_of stands d list)
+  sheet_of kind = sheet F kind net_with

@@ -1,37 +1,39 @@
 ghost use Rattle.std.specs.Prelude.{◌≡◌};
-ghost use Rattle.sheet.specs.Faults.{placed_at};
-ghost use Rattle.sheet.specs.Numbers.{bytes_number, fault_number, fault_place, fault_layer, write_number};
+ghost use Rattle.sheet.specs.Faults.{at_place, placed_at};
+ghost use Rattle.sheet.specs.Numbers.{bytes_number, fault_number, fault_place, fault_layer, layer_number};
 ghost use Rattle.sheet.specs.declared.faults.SheetFault.TheVariants.{Bytes, Label, Line};
 
 use label::LabelFault;
 use net::NetRefusal;
 
-// What is wrong with the bytes of a sheet.
+// What is wrong with the bytes of a sheet, by its number in the kit's table.
 #[derive(Clone, Copy, PartialEq, Eq, Debug)]
 pub enum BytesFault {
     // the sheet ends inside a number or before one
-    Ends,
+    Ends = 1,
     // a number's third byte has its top bit set, or its last byte of several is 00
-    Malformed,
+    Malformed = 2,
     // another kind than named
-    OtherKind,
+    OtherKind = 3,
     // nodes or lines outside their range
-    HeadingOutOfRange,
+    HeadingOutOfRange = 4,
     // bytes left over
-    LeftOver,
+    LeftOver = 6,
 }
 
 impl BytesFault {
+    // The number that the fault has in the kit's table: outside the kit faults are kept and told by number.
     pub fn number(self) -> u8
         ensures { result ≡ bytes_number self }
     {
-        match self {
-            BytesFault::Ends => 1,
-            BytesFault::Malformed => 2,
-            BytesFault::OtherKind => 3,
-            BytesFault::HeadingOutOfRange => 4,
-            BytesFault::LeftOver => 6,
-        }
+        self as u8
+    }
+
+    // The fault with the place where it was found.
+    pub(crate) fn found_at(self, place: usize) -> Placed<BytesFault>
+        ensures { result ≡ at_place self place }
+    {
+        Placed { fault: self, place }
     }
 }
 
@@ -46,9 +48,26 @@ pub struct Placed<F> {
 pub(crate) fn at_place<T, F>(answer: Result<T, F>, place: usize) -> Result<T, Placed<F>>
     ensures { result ≡ placed_at answer place }
 {
-    match answer {
-        Ok(value) => Ok(value),
-        Err(fault) => Err(Placed { fault, place }),
+    answer.map_err(|fault| Placed { fault, place })
+}
+
+// A layer of the kit, by its number.
+#[derive(Clone, Copy, PartialEq, Eq, Debug)]
+pub enum Layer {
+    // the bytes
+    Bytes = 1,
+    // a label
+    Label = 2,
+    // the rules of drawing
+    Line = 3,
+}
+
+impl Layer {
+    // The number by which a printed fault names the layer.
+    pub fn number(self) -> u8
+        ensures { result ≡ layer_number self }
+    {
+        self as u8
     }
 }
 
@@ -61,7 +80,7 @@ pub enum SheetFault {
 }
 
 impl SheetFault {
-    // The number that the fault has in the kit's table.
+    // The number that the fault has in the kit's table: outside the kit faults are kept and told by number.
     pub fn number(self) -> u8
         ensures { result ≡ fault_number self }
     {
@@ -72,7 +91,7 @@ impl SheetFault {
         }
     }
 
-    // The byte place.
+    // The byte place. Each variant holds a fault of another type, so each is matched.
     pub fn place(self) -> usize
         ensures { result ≡ fault_place self }
     {
@@ -83,18 +102,19 @@ impl SheetFault {
         }
     }
 
-    // The layer: 1 for the bytes, 2 for a label, 3 for the rules of drawing.
-    pub fn layer(self) -> u8
+    // The layer that refuses.
+    pub fn layer(self) -> Layer
         ensures { result ≡ fault_layer self }
     {
         match self {
-            SheetFault::Bytes(_) => 1,
-            SheetFault::Label(_) => 2,
-            SheetFault::Line(_) => 3,
+            SheetFault::Bytes(_) => Layer::Bytes,
+            SheetFault::Label(_) => Layer::Label,
+            SheetFault::Line(_) => Layer::Line,
         }
     }
 }
 
+// The conversions stand one by one: a clause that names the variant which a `?` makes needs `from_gives`.
 impl From<Placed<BytesFault>> for SheetFault {
     ghost from_gives = { λ f r. r ≡ Bytes f };
 
@@ -116,28 +136,5 @@ impl From<Placed<NetRefusal>> for SheetFault {
 
     fn from(f: Placed<NetRefusal>) -> SheetFault {
         SheetFault::Line(f)
-    }
-}
-
-// Why writing a sheet is refused.
-#[derive(Clone, Copy, PartialEq, Eq, Debug)]
-pub enum WriteRefusal {
-    // a line list of another length than at opening
-    OtherLength,
-    // a label without written form
-    NoWrittenForm,
-    // the output is shorter than the sheet
-    OutputShort,
-}
-
-impl WriteRefusal {
-    pub fn number(self) -> u8
-        ensures { result ≡ write_number self }
-    {
-        match self {
-            WriteRefusal::OtherLength => 12,
-            WriteRefusal::NoWrittenForm => 31,
-            WriteRefusal::OutputShort => 9,
-        }
     }
 }

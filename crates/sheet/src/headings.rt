@@ -1,46 +1,34 @@
-ghost use Rattle.sheet.specs.Reading.{HeadingClause};
+ghost use Rattle.std.specs.Prelude.{◌≡◌};
+ghost use Rattle.sheet.specs.Reading.{Reads, HeadingClause};
 
 use crate::faults::{BytesFault, Placed};
 use crate::kinds::SheetKind;
-use crate::numbers::{Heading, number_at};
-use net::{Draft, Line};
+use crate::reader::{Heading, Reader};
+use net::{Draft, Line, MOST_LINES};
 
-// The most lines that a sheet has.
-const MOST_LINES: u32 = 96;
-
-// The kind, the nodes and the number of lines; opens the draft.
-pub(crate) fn heading<K: SheetKind>(
-    bytes: &[u8],
-    list: &[Line<K>],
-) -> Result<Heading, Placed<BytesFault>>
-    ensures { HeadingClause K.SheetKind.kind bytes.now list.now result }
-{
-    let kind = number_at(bytes, 0)?;
-    if kind.value != K::kind() {
-        return Err(Placed {
-            fault: BytesFault::OtherKind,
-            place: 0,
-        });
-    }
-    let nodes = number_at(bytes, kind.next)?;
-    match Draft::open(nodes.value, list) {
-        Err(_) => Err(Placed {
-            fault: BytesFault::HeadingOutOfRange,
-            place: kind.next,
-        }),
-        Ok(draft) => {
-            let lines = number_at(bytes, nodes.next)?;
-            if lines.value > MOST_LINES {
-                return Err(Placed {
-                    fault: BytesFault::HeadingOutOfRange,
-                    place: nodes.next,
-                });
-            }
-            Ok(Heading {
-                draft,
-                lines: lines.value,
-                next: lines.next,
-            })
+impl Reader<'_> {
+    // The kind, the nodes and the number of lines, which the sheet begins with; opens the draft.
+    pub(crate) fn heading<K: SheetKind>(
+        &mut self,
+        list: &[Line<K>],
+    ) -> Result<Heading, Placed<BytesFault>>
+        requires { self.old.place ≡ 0 }
+        ensures { Reads (λ bytes _. HeadingClause K.SheetKind.KIND list.now bytes) self.old self.new result }
+    {
+        let place = self.place;
+        if self.number()? != K::KIND {
+            return Err(BytesFault::OtherKind.found_at(place));
         }
+        let place = self.place;
+        let nodes = self.number()?;
+        let Ok(draft) = Draft::open(nodes, list) else {
+            return Err(BytesFault::HeadingOutOfRange.found_at(place));
+        };
+        let place = self.place;
+        let lines = self.number()?;
+        if lines > MOST_LINES as u32 {
+            return Err(BytesFault::HeadingOutOfRange.found_at(place));
+        }
+        Ok(Heading { draft, lines })
     }
 }

@@ -1,4 +1,4 @@
-ghost use Rattle.std.specs.Prelude.{◌≡◌, ℕ};
+ghost use Rattle.std.specs.Prelude.{ℕ};
 ghost use Rattle.sheet.specs.Stored.{Small};
 ghost use Rattle.std.proofs.Common.{lit<};
 
@@ -8,50 +8,41 @@ use permutation::PackedNumber;
 
 // A label kind that sheets can be of: its number is the first of the sheet.
 pub trait SheetKind: Label {
-    ghost kind: { ℕ };
+    ghost KIND: { ℕ };
 
-    fn kind() -> u32
-        ensures { result ≡ kind };
+    const KIND: u32;
 
-    ghost small: { Small kind };
+    ghost small: { Small KIND };
 }
 
 impl SheetKind for Translation {
-    ghost kind = { 1 };
+    ghost KIND = { 1 };
+
+    const KIND: u32 = 1;
 
     ghost small = { lit< tt };
-
-    fn kind() -> u32 {
-        1
-    }
 }
 
 impl SheetKind for Screw {
-    ghost kind = { 2 };
+    ghost KIND = { 2 };
+
+    const KIND: u32 = 2;
 
     ghost small = { lit< tt };
-
-    fn kind() -> u32 {
-        2
-    }
 }
 
 impl SheetKind for PackedNumber {
-    ghost kind = { 3 };
+    ghost KIND = { 3 };
+
+    const KIND: u32 = 3;
 
     ghost small = { lit< tt };
-
-    fn kind() -> u32 {
-        3
-    }
 }
 
 impl SheetKind for Pair<Translation, PackedNumber> {
-    ghost kind = { 4 };
+    ghost KIND = { 4 };
+
+    const KIND: u32 = 4;
 
     ghost small = { lit< tt };
-
-    fn kind() -> u32 {
-        4
-    }
 }

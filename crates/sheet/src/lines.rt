@@ -1,41 +1,32 @@
-ghost use Rattle.std.specs.Prelude.{◌≤◌, length};
-ghost use Rattle.sheet.specs.Reading.{LineAtClause, DrawClause};
+ghost use Rattle.sheet.specs.Reading.{Reads, LineAtClause, DrawClause};
 
 use crate::faults::{SheetFault, at_place};
-use crate::labels::label_at;
-use crate::numbers::{ReadLine, number_at};
+use crate::reader::Reader;
 use label::Label;
 use net::{Draft, Line};
 
-// The line at the place: its tail, its head and its label.
-fn line_at<L: Label>(bytes: &[u8], place: usize) -> Result<ReadLine<L>, SheetFault>
-    requires { place ≤ length bytes.now }
-    ensures { LineAtClause L.Label.form L.Label.stands bytes.now place result }
-{
-    let tail = number_at(bytes, place)?;
-    let head = number_at(bytes, tail.next)?;
-    let label = label_at::<L>(bytes, head.next)?;
-    Ok(ReadLine {
-        line: Line {
-            tail: tail.value,
-            head: head.value,
-            label: label.label,
-        },
-        next: label.next,
-    })
-}
+impl Reader<'_> {
+    // The next line: its tail, its head and its label.
+    fn line<L: Label>(&mut self) -> Result<Line<L>, SheetFault>
+        ensures { Reads (LineAtClause L.Label.form L.Label.stands) self.old self.new result }
+    {
+        let tail = self.number()?;
+        let head = self.number()?;
+        let label = self.label()?;
+        Ok(Line { tail, head, label })
+    }
 
-// Reads the line at the place and draws it; answers the place after it.
-pub(crate) fn draw_line_at<L: Label>(
-    bytes: &[u8],
-    place: usize,
-    draft: &mut Draft,
-    list: &mut [Line<L>],
-) -> Result<usize, SheetFault>
-    requires { place ≤ length bytes.now }
-    ensures { DrawClause L.Label.form L.Label.stands L.Label.group bytes.now place draft.old list.old result draft.new list.new }
-{
-    let read = line_at::<L>(bytes, place)?;
-    at_place(draft.line(list, read.line), place)?;
-    Ok(read.next)
+    // Reads the next line and draws it.
+    pub(crate) fn draw_line<L: Label>(
+        &mut self,
+        draft: &mut Draft,
+        list: &mut [Line<L>],
+    ) -> Result<(), SheetFault>
+        ensures { Reads (DrawClause L.Label.form L.Label.stands L.Label.group draft.old list.old draft.new list.new) self.old self.new result }
+    {
+        let place = self.place;
+        let line = self.line()?;
+        at_place(draft.line(list, line), place)?;
+        Ok(())
+    }
 }

@@ -1,15 +1,15 @@
-ghost use Rattle.std.specs.Prelude.{◌≡◌, ◌+◌, ◌*◌, ◌<◌, ◌≤◌, ◌++◌, length, drop, MatchBool, slice_index};
-ghost use Rattle.net.specs.Model.{line_of, lines_of};
-ghost use Rattle.sheet.specs.Clauses.{WriteSheet};
-ghost use Rattle.sheet.specs.Codes.{code};
-ghost use Rattle.sheet.specs.Sheet.{label_codes, line_numbers, AllWritten};
+ghost use Rattle.std.specs.Prelude.{◌≡◌, ◌+◌, ◌*◌, ◌≤◌, ◌++◌, true, map, length, drop, slice_index};
+ghost use Rattle.net.specs.Model.{line_of};
+ghost use Rattle.sheet.specs.Sheet.{label_codes, line_numbers, all_written};
 ghost use Rattle.sheet.specs.Stored.{stored};
-ghost use Rattle.sheet.specs.Writing.{Writable, numbers_of, sheet_of};
+ghost use Rattle.sheet.specs.Writing.{numbers_of, sheet_of};
+ghost use Rattle.sheet.specs.Clauses.{WriteSheet};
 
-use crate::faults::WriteRefusal;
+use crate::codes::coded;
 use crate::kinds::SheetKind;
 use crate::lengths::stored_length;
-use label::{Label, Storage};
+use crate::refusals::WriteRefusal;
+use label::Label;
 use net::{Draft, Line};
 
 // Writes the number at the front of the output, and says how many bytes that took.
@@ -33,35 +33,17 @@ fn put(out: &mut [u8], n: u32) -> usize
     3
 }
 
-// The number that is stored for n.
-fn coded(storage: Storage, n: i32) -> u32
-    ensures { result ≡ code storage n }
-{
-    // a number below 0 is folded to -n - 1, and is told by one more
-    let (folded, below) = if n < 0 { (-(n + 1), 1) } else { (n, 0) };
-    match storage {
-        Storage::Signed => 2 * folded as u32 + below,
-        Storage::Image => folded as u32 + below,
-    }
-}
-
-// The number at a place of the label's written form, as it is stored.
+// The number at a place of the label's written form, as it is stored; 0 where there is none.
 fn label_number<L: Label>(label: L, at: usize) -> u32
     ensures { result ≡ slice_index (label_codes L.Label.form (L.Label.stands label)) at }
 {
-    let Some(slot) = L::slot(at) else {
-        return 0;
-    };
-    let Ok(told) = label.written(at) else {
-        return 0;
-    };
-    match told {
-        Some(n) => coded(slot.storage, n),
-        None => 0,
+    match (L::slot(at), label.written(at)) {
+        (Some(slot), Ok(Some(n))) => coded(slot.storage, n),
+        _ => 0,
     }
 }
 
-// The number at a place of the line: its tail, its head, or one of its label's.
+// The number at a place of the line: its tail, its head, or one of its label's. By place, as the numbers of the sheet are.
 fn line_number<L: Label>(line: Line<L>, at: usize) -> u32
     ensures { result ≡ slice_index (line_numbers L.Label.form (line_of L.Label.stands line)) at }
 {
@@ -72,65 +54,72 @@ fn line_number<L: Label>(line: Line<L>, at: usize) -> u32
     }
 }
 
-// How many numbers the sheet has: three of the heading, and of each line its ends and its label's.
-fn number_count<L: Label>(draft: &Draft) -> usize
-    ensures { result ≡ 3 + draft.now.lines * (2 + length L.Label.form.slots) }
-{
-    3 + draft.lines() * (2 + L::width())
-}
-
-// The number at a place of the sheet: one of the heading, or one of a line.
-fn sheet_number<K: SheetKind>(draft: &Draft, list: &[Line<K>], at: usize) -> u32
-    requires { (Writable K.Label.form K.Label.stands draft.now list.now) × (at < 3 + draft.now.lines * (2 + length K.Label.form.slots)) }
-    ensures { result ≡ slice_index (numbers_of K.Label.form K.Label.stands draft.now list.now K.SheetKind.kind) at }
-{
-    match at {
-        0 => K::kind(),
-        1 => draft.nodes(),
-        2 => draft.lines() as u32,
-        _ => {
-            let long = 2 + K::width();
-            line_number(list[(at - 3) / long], (at - 3) % long)
-        }
-    }
-}
-
 // Whether every label of the lines has a written form.
-fn all_written<L: Label>(draft: &Draft, list: &[Line<L>]) -> bool
-    requires { length list.now ≡ draft.now.room }
-    ensures { MatchBool result (AllWritten L.Label.form (lines_of L.Label.stands draft.now.lines list.now)) (AllWritten L.Label.form (lines_of L.Label.stands draft.now.lines list.now) → ⊥) }
+fn all_written<L: Label>(lines: &[Line<L>]) -> bool
+    ensures { result ≡ all_written L.Label.form (map (line_of L.Label.stands) lines.now) }
 {
-    for i in 0..draft.lines() {
-        if let Err(_) = list[i].label.written(0) {
-            return false;
+    lines.iter().all(|line| line.label.written(0).is_ok())
+}
+
+// A net whose sheet can be written: every label of its lines has a written form.
+#[derive(Drop)]
+struct Writer<'a, K: SheetKind> {
+    nodes: u32,
+    lines: &'a [Line<K>],
+    ghost few: { length lines.now ≤ 96 },
+    ghost written: { all_written K.Label.form (map (line_of K.Label.stands) lines.now) ≡ true },
+}
+
+impl<K: SheetKind> Writer<'_, K> {
+    // How many numbers the sheet has: three of the heading, and of each line its ends and its label's.
+    fn number_count(&self) -> usize
+        ensures { result ≡ 3 + length self.now.lines.now * (2 + length K.Label.form.slots) }
+    {
+        3 + self.lines.len() * (2 + K::NUMBERS)
+    }
+
+    // The number at a place of the sheet: one of the heading, or one of a line; 0 past the end.
+    // By its place, since `length` and `put` both go over the numbers: line by line, each would need the heading's three
+    // by themselves, a loop over the lines, and one over a line's numbers.
+    fn number(&self, at: usize) -> u32
+        ensures { result ≡ slice_index (numbers_of K.Label.form K.Label.stands self.now.nodes self.now.lines.now K.SheetKind.KIND) at }
+    {
+        match at {
+            0 => K::KIND,
+            1 => self.nodes,
+            2 => self.lines.len() as u32,
+            _ => {
+                let long = 2 + K::NUMBERS;
+                match self.lines.get((at - 3) / long) {
+                    Some(line) => line_number(*line, (at - 3) % long),
+                    None => 0,
+                }
+            }
         }
     }
-    true
-}
 
-// How many bytes the sheet takes.
-fn sheet_length<K: SheetKind>(draft: &Draft, list: &[Line<K>]) -> usize
-    requires { Writable K.Label.form K.Label.stands draft.now list.now }
-    ensures { result ≡ length (sheet_of K.Label.form K.Label.stands draft.now list.now K.SheetKind.kind) }
-{
-    let mut sum = 0;
-    for at in 0..number_count::<K>(draft) {
-        sum += stored_length(sheet_number(draft, list, at));
+    // How many bytes the sheet takes.
+    fn length(&self) -> usize
+        ensures { result ≡ length (sheet_of K.Label.form K.Label.stands self.now.nodes self.now.lines.now K.SheetKind.KIND) }
+    {
+        (0..self.number_count())
+            .map(|at| stored_length(self.number(at)))
+            .sum()
     }
-    sum
-}
 
-// Writes the sheet at the front of the output, and says how many bytes that took.
-fn put_sheet<K: SheetKind>(draft: &Draft, list: &[Line<K>], out: &mut [u8]) -> usize
-    requires { (Writable K.Label.form K.Label.stands draft.now list.now) × (length (sheet_of K.Label.form K.Label.stands draft.now list.now K.SheetKind.kind) ≤ length out.old) }
-    ensures long { result ≡ length (sheet_of K.Label.form K.Label.stands draft.now list.now K.SheetKind.kind) }
-    ensures bytes { out.new ≡ sheet_of K.Label.form K.Label.stands draft.now list.now K.SheetKind.kind ++ drop result out.old }
-{
-    let mut end = 0;
-    for at in 0..number_count::<K>(draft) {
-        end += put(&mut out[end..], sheet_number(draft, list, at));
+    // Writes the sheet at the front of the output, and says how many bytes that took.
+    fn put(&self, out: &mut [u8]) -> usize
+        requires { length (sheet_of K.Label.form K.Label.stands self.now.nodes self.now.lines.now K.SheetKind.KIND) ≤ length out.old }
+        ensures long { result ≡ length (sheet_of K.Label.form K.Label.stands self.now.nodes self.now.lines.now K.SheetKind.KIND) }
+        ensures bytes { out.new ≡ sheet_of K.Label.form K.Label.stands self.now.nodes self.now.lines.now K.SheetKind.KIND ++ drop result out.old }
+    {
+        let mut end = 0;
+        // each number is written into what is left of the output
+        for at in 0..self.number_count() {
+            end += put(&mut out[end..], self.number(at));
+        }
+        end
     }
-    end
 }
 
 // Writes the sheet of the draft's net at the front of the output, and says how many bytes it takes.
@@ -140,16 +129,20 @@ pub fn write<K: SheetKind>(
     list: &[Line<K>],
     out: &mut [u8],
 ) -> Result<usize, WriteRefusal>
-    ensures { WriteSheet K.Label.group K.Label.form K.Label.stands K.SheetKind.kind draft.now list.now out.old result out.new }
+    ensures { WriteSheet K.Label.group K.Label.form K.Label.stands K.SheetKind.KIND draft.now list.now out.old result out.new }
 {
-    if list.len() != draft.room() {
+    let Ok(lines) = draft.drawn(list) else {
         return Err(WriteRefusal::OtherLength);
-    }
-    if !all_written(draft, list) {
+    };
+    if !all_written(lines) {
         return Err(WriteRefusal::NoWrittenForm);
     }
-    if out.len() < sheet_length(draft, list) {
+    let writer = Writer {
+        nodes: draft.nodes(),
+        lines,
+    };
+    if out.len() < writer.length() {
         return Err(WriteRefusal::OutputShort);
     }
-    Ok(put_sheet(draft, list, out))
+    Ok(writer.put(out))
 }

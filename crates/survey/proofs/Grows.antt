@@ -1,6 +1,7 @@
 -- The answers of growing.
-use Rattle.std.proofs.Common.{◌≡◌, ℕ, suc, ◌+◌, ◌*◌, ◌<◌, ◌≤◌, true, false, List, length, get_or, Ok, Err, sym, refl, ap, ◌∙◌, subst, inl, inr, add-one, arith}
+use Rattle.std.proofs.Common.{◌≡◌, ℕ, suc, ◌+◌, ◌<◌, ◌≤◌, true, false, List, [], length, slice_index, set, Ok, Err, sym, refl, ap, ◌∙◌, subst, inl, inr, add-one, arith}
 use Rattle.std.proofs.lemmas.Bool.{cases_lt, false≢true}
+use Rattle.std.proofs.lemmas.List.{get_or-set_same, get_or-set_other}
 use Rattle.label.specs.Group.{Group}
 use Rattle.label.specs.Order.{Order}
 use Rattle.mesh.specs.Drawn.{Drawn}
@@ -15,7 +16,8 @@ use Rattle.growth.proofs.Totals.{balls_found, surveyed_total, overfull_total}
 use Rattle.survey.specs.Found.{found}
 use Rattle.survey.specs.Searching.{Searchable}
 use Rattle.survey.specs.Stepping.{Kept}
-use Rattle.survey.specs.Owns.{Owns, mark_of}
+use Rattle.survey.specs.Marks.{mark_of}
+use Rattle.survey.specs.Owns.{Owns}
 use Rattle.survey.specs.Rules.{Strange, GrowBreaks, grow_rules}
 use Rattle.survey.specs.Clauses.{GrowClause}
 use Rattle.survey.specs.Unfolding.{Unfolded, RanOut}
@@ -24,7 +26,7 @@ use Rattle.survey.specs.declared.surveys.Survey.{Survey}
 use Rattle.survey.specs.declared.surveys.Frontier.{Frontier}
 use Rattle.survey.specs.declared.refusals.SurveyRefusal.{SurveyRefusal}
 use Rattle.survey.specs.declared.refusals.SurveyRefusal.TheVariants as refusal
-use Rattle.survey.proofs.Lents.{lent_known}
+use Rattle.survey.proofs.Tested.{lent_known}
 use Rattle.survey.proofs.Trees.{found_count}
 
 module _ {L M : Type 0} (G : Group M) (O : Order M) (stands : L → M) (s : Survey) (list : List (Line L)) (pool : List (Record L)) where
@@ -73,42 +75,39 @@ module _ {L M : Type 0} (G : Group M) (O : Order M) (stands : L → M) (s : Surv
       };
     }
 
-    module _ (f : Frontier) (u : Unfolded G O stands s list pool s.draft.nodes f pool') where
+    module _ (f : Frontier) (u : Unfolded G O stands s list pool s.draft.nodes f pool') (marked : length s.marks ≡ 17) where
+      -- the marks with the row of the next radius
+      abbrev pub marks_then : List (List ℕ)
+      marks_then = set s.marks (s.radius + 1) f.marks
+
+      row_next : (k : ℕ) → k ≡ s.radius + 1 → (v : ℕ) → mark_of marks_then k v ≡ slice_index f.marks v
+      row_next k e v = ap (λ (i : ℕ). mark_of marks_then i v) e ∙ ap (λ (row : List ℕ). slice_index row v) (get_or-set_same s.marks (s.radius + 1) f.marks [] (omega arith))
+
+      row_before : (k v : ℕ) → k ≤ s.radius → mark_of marks_then k v ≡ mark_of s.marks k v
+      row_before k v h = ap (λ (row : List ℕ). slice_index row v) (get_or-set_other s.marks (s.radius + 1) k f.marks [] (λ q. let z : ⊥ = omega arith in z))
+
       -- the marks of all radii ascend, within the records in use
-      pub frontier_ascend : (k v : ℕ) → k ≤ s.radius + 1 → v < s.draft.nodes → get_or f.marks (25 * k + v) 0 ≤ get_or f.marks (25 * k + v + 1) 0
+      pub frontier_ascend : (k v : ℕ) → k ≤ s.radius + 1 → v < s.draft.nodes → mark_of marks_then k v ≤ mark_of marks_then k (suc v)
       frontier_ascend k v h l =
-          let next : get_or f.marks (25 * k + v + 1) 0 ≡ mark_of f.marks k (suc v) = ap (λ (i : ℕ). get_or f.marks i 0) (omega arith) in
           elim (cases_lt k (s.radius + 1)) [
-            | inl b ↦
-                let a = u.older k v (omega arith) (omega arith) in
-                let c = u.older k (suc v) (omega arith) (omega arith) in
-                let was : get_or s.marks (25 * k + v + 1) 0 ≡ mark_of s.marks k (suc v) = ap (λ (i : ℕ). get_or s.marks i 0) (omega arith) in
-                let d = s.ascend k v (omega arith) l in
-                omega arith
-            | inr b ↦
-                let z : suc s.radius ≡ k = omega arith in
-                let d : mark_of f.marks k v ≤ mark_of f.marks k (suc v) = subst (λ (n : ℕ). mark_of f.marks n v ≤ mark_of f.marks n (suc v)) z (u.ordered v l) in
-                omega arith
+            | inl b ↦ let p = row_before k v (omega arith) in let q = row_before k (suc v) (omega arith) in let a = s.ascend k v (omega arith) l in omega arith
+            | inr b ↦ let p = row_next k (omega arith) v in let q = row_next k (omega arith) (suc v) in let a = u.ordered v l in omega arith
           ]
 
-      pub frontier_inside : (k v : ℕ) → k ≤ s.radius + 1 → v ≤ s.draft.nodes → get_or f.marks (25 * k + v) 0 ≤ f.used
+      pub frontier_inside : (k v : ℕ) → k ≤ s.radius + 1 → v ≤ s.draft.nodes → mark_of marks_then k v ≤ f.used
       frontier_inside k v h l =
           elim (cases_lt k (s.radius + 1)) [
-            | inl b ↦
-                let a = u.older k v (omega arith) l in
-                let d = s.inside k v (omega arith) l in
-                let m = u.more in
-                omega arith
-            | inr b ↦ let z : suc s.radius ≡ k = omega arith in subst (λ (n : ℕ). mark_of f.marks n v ≤ f.used) z (u.inside v l)
+            | inl b ↦ let p = row_before k v (omega arith) in let a = s.inside k v (omega arith) l in let m = u.more in omega arith
+            | inr b ↦ let p = row_next k (omega arith) v in let a = u.inside v l in omega arith
           ]
 
-      surveyed_next : Owns G O stands s list pool → Surveyed G (net_of stands s.draft list) (suc s.radius) (mark_of f.marks) (found stands f.used pool')
+      surveyed_next : Owns G O stands s list pool → Surveyed G (net_of stands s.draft list) (suc s.radius) (mark_of marks_then) (found stands f.used pool')
       surveyed_next o =
-          grown G (net_of stands s.draft list) s.radius (mark_of s.marks) (found stands s.used pool) o.surveyed (mark_of f.marks (suc s.radius)) (found stands f.used pool') (u.growing o.searchable)
-          (mark_of f.marks) u.older (λ v h. refl)
+          grown G (net_of stands s.draft list) s.radius (mark_of s.marks) (found stands s.used pool) o.surveyed (slice_index f.marks) (found stands f.used pool') (u.growing o.searchable)
+          (mark_of marks_then) (λ k v h l. row_before k v h) (λ v h. row_next (suc s.radius) (sym (add-one s.radius)) v)
 
       -- the next shells are found
-      pub grow_done : (s' : Survey) → s'.draft ≡ s.draft → s'.radius ≡ s.radius + 1 → s'.used ≡ f.used → s'.room ≡ s.room → s'.marks ≡ f.marks → GrowClause G O stands s list pool (Ok tt) s' pool'
+      pub grow_done : (s' : Survey) → s'.draft ≡ s.draft → s'.radius ≡ s.radius + 1 → s'.used ≡ f.used → s'.room ≡ s.room → s'.marks ≡ marks_then → GrowClause G O stands s list pool (Ok tt) s' pool'
       grow_done s' draft_is radius_is used_is room_is marks_is = record {
         short = false;
         answer = ((known, (high, (false≢true, tt))), record { draft = draft_is; radius = radius_is ∙ add-one s.radius; room = room_is });
@@ -118,7 +117,7 @@ module _ {L M : Type 0} (G : Group M) (O : Order M) (stands : L → M) (s : Surv
         room = λ o h.
             let net = net_of stands s.draft list in
             let b = balls_found O G net (suc s.radius) in
-            let e = surveyed_total G net (suc s.radius) (mark_of f.marks) (found stands f.used pool') (surveyed_next o) b.0 b.1 in
+            let e = surveyed_total G net (suc s.radius) (mark_of marks_then) (found stands f.used pool') (surveyed_next o) b.0 b.1 in
             let n = found_count stands f.used pool' (let r = u.room in omega arith) in
             (b.0, b.1, (let r = u.room in omega arith));
         owns = λ o. record {
@@ -129,7 +128,7 @@ module _ {L M : Type 0} (G : Group M) (O : Order M) (stands : L → M) (s : Surv
           surveyed =
               subst (λ (d : Draft). Surveyed G (net_of stands d list) s'.radius (mark_of s'.marks) (found stands s'.used pool')) (sym draft_is)
               (subst (λ (n : ℕ). Surveyed G (net_of stands s.draft list) n (mark_of s'.marks) (found stands s'.used pool')) (sym (radius_is ∙ add-one s.radius))
-              (subst (λ (ms : List ℕ). Surveyed G (net_of stands s.draft list) (suc s.radius) (mark_of ms) (found stands s'.used pool')) (sym marks_is)
-              (subst (λ (n : ℕ). Surveyed G (net_of stands s.draft list) (suc s.radius) (mark_of f.marks) (found stands n pool')) (sym used_is) (surveyed_next o))));
+              (subst (λ (ms : List (List ℕ)). Surveyed G (net_of stands s.draft list) (suc s.radius) (mark_of ms) (found stands s'.used pool')) (sym marks_is)
+              (subst (λ (n : ℕ). Surveyed G (net_of stands s.draft list) (suc s.radius) (mark_of marks_then) (found stands n pool')) (sym used_is) (surveyed_next o))));
         };
       }

@@ -1,14 +1,13 @@
 -- The sights to which the ports of a line, and of the lines of a list, lead.
-use Rattle.std.proofs.Common.{◌≡◌, ℕ, ◌+◌, ◌<◌, ◌≤◌, Bool, true, false, eqb, List, ◌++◌, map, length, get_or, take, drop, sym, refl, ap, ◌∙◌}
-use Rattle.std.proofs.lemmas.List.{map-append}
+use Rattle.std.proofs.Common.{◌≡◌, ℕ, ◌+◌, ◌<◌, Bool, true, false, eqb, List, [], ◌∷◌, ◌++◌, map, length, get_or, take, drop, sym, refl, ap, ◌∙◌}
+use Rattle.std.proofs.lemmas.List.{map-append, map_push, take_more, take-append-drop}
 use Rattle.label.specs.Group.{Group}
 use Rattle.mesh.specs.Net as mesh
 use Rattle.mesh.specs.Ports.{Port, ahead, behind, line_ports, ports_of}
 use Rattle.mesh.specs.Target.{target}
 use Rattle.mesh.proofs.Ported.{ports_append, ports_push}
-use Rattle.net.specs.Model.{line_of, lines_of}
+use Rattle.net.specs.Model.{line_of}
 use Rattle.net.specs.declared.records.Line.{Line}
-use Rattle.net.proofs.Steps.{lines_more, lines_split}
 use Rattle.growth.specs.Entry.{Sight, about}
 use Rattle.survey.specs.Leading.{led, one_if}
 
@@ -27,16 +26,24 @@ module _ {M : Type 0} (G : Group M) (v : ℕ) (h : M) where
       let second = one_if (eqb l.head u) (behind G l) in
       sym (led_append first second ∙ ap (λ (ss : List (Sight M)). ss ++ led G v h second) (led_if (eqb l.tail u) (ahead l)) ∙ ap (λ (ss : List (Sight M)). one_if (eqb l.tail u) (about v (target G h (ahead l))) ++ ss) (led_if (eqb l.head u) (behind G l)))
 
-  module _ {L : Type 0} (stands : L → M) (list : List (Line L)) (u : ℕ) where
-    -- one record more of the list
-    pub led_more : (i : ℕ) (x : Line L) → i < length list → x ≡ get_or list i x → led G v h (ports_of G u (lines_of stands i list)) ++ led G v h (line_ports G u (line_of stands x)) ≡ led G v h (ports_of G u (lines_of stands (i + 1) list))
-    led_more i x inside read =
-        sym (ap (led G v h) (ap (ports_of G u) (lines_more stands list i x inside read) ∙ ports_push G u (lines_of stands i list) (line_of stands x))
-        ∙ led_append (ports_of G u (lines_of stands i list)) (line_ports G u (line_of stands x)))
+  module _ {L : Type 0} (stands : L → M) (lines : List (Line L)) (u : ℕ) where
+    -- what the lines of a part give
+    abbrev pub given : List (Line L) → List (Sight M)
+    given ls = led G v h (ports_of G u (map (line_of stands) ls))
 
-    -- the first i records of k, and the others
-    pub led_split : (i k : ℕ) → i ≤ k → led G v h (ports_of G u (lines_of stands i list)) ++ led G v h (ports_of G u (map (line_of stands) (drop i (take k list)))) ≡ led G v h (ports_of G u (lines_of stands k list))
-    led_split i k le =
-        let rest = map (line_of stands) (drop i (take k list)) in
-        sym (ap (led G v h) (ap (ports_of G u) (lines_split stands list i k le) ∙ ports_append G u (lines_of stands i list) rest)
-        ∙ led_append (ports_of G u (lines_of stands i list)) (ports_of G u rest))
+    -- one line more
+    pub led_more : (i : ℕ) (x : Line L) → i < length lines → x ≡ get_or lines i x → given (take i lines) ++ led G v h (line_ports G u (line_of stands x)) ≡ given (take (i + 1) lines)
+    led_more i x inside read =
+        let more : take i lines ++ (x ∷ []) ≡ take (i + 1) lines = sym (take_more lines i x inside ∙ ap (λ (y : Line L). take i lines ++ (y ∷ [])) (sym read)) in
+        sym (led_append (ports_of G u (map (line_of stands) (take i lines))) (line_ports G u (line_of stands x)))
+        ∙ ap (led G v h) (sym (ports_push G u (map (line_of stands) (take i lines)) (line_of stands x)) ∙ ap (ports_of G u) (sym (map_push (line_of stands) (take i lines) x)))
+        ∙ ap given more
+
+    -- the first lines, and the others
+    pub led_split : (i : ℕ) → given (take i lines) ++ given (drop i lines) ≡ given lines
+    led_split i =
+        let front = map (line_of stands) (take i lines) in
+        let rest = map (line_of stands) (drop i lines) in
+        sym (led_append (ports_of G u front) (ports_of G u rest))
+        ∙ ap (led G v h) (sym (ports_append G u front rest) ∙ ap (ports_of G u) (sym (map-append (line_of stands) (take i lines) (drop i lines))))
+        ∙ ap given (take-append-drop i lines)

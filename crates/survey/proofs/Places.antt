@@ -1,6 +1,7 @@
 -- What stands at a place of a list.
-use Rattle.std.proofs.Common.{◌≡◌, ℕ, zero, suc, ◌<◌, List, [], ◌∷◌, map, length, take, set, Some, sym, refl, ap, inl, inr, arith}
+use Rattle.std.proofs.Common.{◌≡◌, ℕ, zero, suc, ◌<◌, List, [], ◌∷◌, map, length, take, set, Some, option_map, sym, refl, ap, ◌∙◌, inl, inr, arith}
 use Rattle.std.specs.List.{slice_get}
+use Rattle.std.proofs.lemmas.Option.{slice_get-map}
 use Rattle.mesh.specs.Listed.{In}
 
 pub nth_set_same : {X : Type 0} (xs : List X) (i : ℕ) (v : X) → i < length xs → slice_get (set xs i v) i ≡ Some v
@@ -20,11 +21,6 @@ nth_there [] i h = absurd (let z : ⊥ = omega arith in z)
 nth_there (x ∷ xs) zero h = (x, refl)
 nth_there (x ∷ xs) (suc i) h = nth_there xs i (omega arith)
 
-pub nth_inside : {X : Type 0} (xs : List X) (i : ℕ) (x : X) → slice_get xs i ≡ Some x → i < length xs
-nth_inside [] i x e = absurd (let z : ◌≡◌ {A = ℕ} 0 1 = cc in let n : ⊥ = omega arith in n)
-nth_inside (y ∷ xs) zero x e = omega arith
-nth_inside (y ∷ xs) (suc i) x e = let h = nth_inside xs i x e in omega arith
-
 -- writing what stands there changes nothing
 pub set_there : {X : Type 0} (xs : List X) (i : ℕ) (x : X) → slice_get xs i ≡ Some x → set xs i x ≡ xs
 set_there [] i x e = refl
@@ -32,9 +28,7 @@ set_there (y ∷ xs) zero x e = let p : x ≡ y = cc in ap (λ z. z ∷ xs) p
 set_there (y ∷ xs) (suc i) x e = ap (λ zs. y ∷ zs) (set_there xs i x e)
 
 pub nth_map : {X Y : Type 0} (f : X → Y) (xs : List X) (i : ℕ) (x : X) → slice_get xs i ≡ Some x → slice_get (map f xs) i ≡ Some (f x)
-nth_map f [] i x e = absurd (let z : ◌≡◌ {A = ℕ} 0 1 = cc in let n : ⊥ = omega arith in n)
-nth_map {X} {Y} f (y ∷ xs) zero x e = let p : y ≡ x = cc in ap (λ z. Some (f z)) p
-nth_map f (y ∷ xs) (suc i) x e = nth_map f xs i x e
+nth_map f xs i x e = slice_get-map f xs i ∙ ap (option_map f) e
 
 pub nth_take : {X : Type 0} (n : ℕ) (xs : List X) (i : ℕ) → i < n → slice_get (take n xs) i ≡ slice_get xs i
 nth_take zero xs i h = absurd (let z : ⊥ = omega arith in z)

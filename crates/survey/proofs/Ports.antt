@@ -1,52 +1,54 @@
 -- Steps that note where the ports of a junction lead.
-use Rattle.std.proofs.Common.{◌≡◌, ℕ, ◌+◌, ◌<◌, ◌≤◌, eqb, List, map, length, get_or, take, drop, Ok, Err, Result, subst}
+use Rattle.std.proofs.Common.{◌≡◌, ℕ, ◌+◌, ◌<◌, eqb, List, map, length, get_or, take, drop, Ok, Err, Result, subst}
 use Rattle.label.specs.Group.{Group}
 use Rattle.label.specs.Order.{Order}
 use Rattle.mesh.specs.Net as mesh
-use Rattle.mesh.specs.Junction as mesh_junction
 use Rattle.mesh.specs.Ports.{ahead, behind, line_ports, ports_of}
 use Rattle.mesh.specs.Target.{target}
-use Rattle.net.specs.Model.{line_of, lines_of}
+use Rattle.net.specs.Model.{line_of}
 use Rattle.net.specs.declared.records.Line.{Line}
 use Rattle.growth.specs.Entry.{Sight, about}
-use Rattle.survey.specs.Leading.{led, one_if}
+use Rattle.survey.specs.Leading.{led, one_if, back}
 use Rattle.survey.specs.Stepping.{Stepped}
-use Rattle.survey.specs.declared.records.Record.{Record}
-use Rattle.survey.specs.declared.asked.Exhausted.{Exhausted}
-use Rattle.survey.proofs.Leads.{led_line, led_more, led_split}
+use Rattle.survey.specs.declared.shelling.Shelling.{Shelling}
+use Rattle.survey.specs.declared.search.Exhausted.{Exhausted}
+use Rattle.survey.proofs.Leads.{given, led_line, led_more, led_split}
 use Rattle.survey.proofs.Steps.{stepped_join, stepped_short}
 
-module _ {L M : Type 0} (G : Group M) (O : Order M) (stands : L → M) (d used v : ℕ) (pool : List (Record L)) (h : M) (u : ℕ) where
-  -- forward along a line, and then backward
-  pub line_joined : (l : mesh.Line M) (s t : mesh_junction.Junction M) → s ≡ target G h (ahead l) → t ≡ target G h (behind G l) →
-      (end : ℕ) (pool' pool'' : List (Record L)) (r : Result ℕ Exhausted) → length pool' ≡ length pool →
-      Stepped O stands d used pool (one_if (eqb l.tail u) (about v s)) (Ok end) pool' → Stepped O stands d end pool' (one_if (eqb l.head u) (about v t)) r pool'' →
-      Stepped O stands d used pool (led G v h (line_ports G u l)) r pool''
-  line_joined l s t p q end pool' pool'' r long a b =
-      subst (λ (ts : List (Sight M)). Stepped O stands d used pool ts r pool'') (led_line G v h u l)
-      (stepped_join O stands d used end pool pool' pool'' (one_if (eqb l.tail u) (about v (target G h (ahead l)))) (one_if (eqb l.head u) (about v (target G h (behind G l)))) r long
-      (subst (λ (j : mesh_junction.Junction M). Stepped O stands d used pool (one_if (eqb l.tail u) (about v j)) (Ok end) pool') p a)
-      (subst (λ (j : mesh_junction.Junction M). Stepped O stands d end pool' (one_if (eqb l.head u) (about v j)) r pool'') q b))
+module _ {L M : Type 0} (G : Group M) (O : Order M) (stands : L → M) (h : M) (u : ℕ) (s s' s'' : Shelling L) where
+  module _ (l : mesh.Line M) where
+    -- where a line leads forward, and backward
+    abbrev pub forward : List (Sight M)
+    forward = one_if (eqb l.tail u) (about s.centre (target G h (ahead l)))
 
-  pub line_short : (l : mesh.Line M) (s : mesh_junction.Junction M) → s ≡ target G h (ahead l) → (e : Exhausted) (pool' : List (Record L)) →
-      Stepped O stands d used pool (one_if (eqb l.tail u) (about v s)) (Err e) pool' → Stepped O stands d used pool (led G v h (line_ports G u l)) (Err e) pool'
-  line_short l s p e pool' a =
-      subst (λ (ts : List (Sight M)). Stepped O stands d used pool ts (Err e) pool') (led_line G v h u l)
-      (stepped_short O stands d used pool pool' (one_if (eqb l.tail u) (about v (target G h (ahead l)))) (one_if (eqb l.head u) (about v (target G h (behind G l)))) e
-      (subst (λ (j : mesh_junction.Junction M). Stepped O stands d used pool (one_if (eqb l.tail u) (about v j)) (Err e) pool') p a))
+    abbrev backward : ℕ → List (Sight M)
+    backward v = one_if (eqb l.head u) (about v (target G h (behind G l)))
 
-  module _ (list : List (Line L)) where
+    -- forward along a line, and then along the line read from its head
+    pub line_joined : (k : mesh.Line M) → k ≡ back G l → (r : Result Unit Exhausted) → Stepped O stands s forward (Ok tt) s' →
+        Stepped O stands s' (one_if (eqb k.tail u) (about s'.centre (target G h (ahead k)))) r s'' → Stepped O stands s (led G s.centre h (line_ports G u l)) r s''
+    line_joined k e r a b =
+        subst (λ (ts : List (Sight M)). Stepped O stands s ts r s'') (led_line G s.centre h u l)
+        (stepped_join O stands s s' s'' forward (backward s.centre) r a
+        (subst (λ (v : ℕ). Stepped O stands s' (backward v) r s'') a.steady.centre
+        (subst (λ (m : mesh.Line M). Stepped O stands s' (one_if (eqb m.tail u) (about s'.centre (target G h (ahead m)))) r s'') e b)))
+
+    pub line_short : (e : Exhausted) → Stepped O stands s forward (Err e) s' → Stepped O stands s (led G s.centre h (line_ports G u l)) (Err e) s'
+    line_short e a = subst (λ (ts : List (Sight M)). Stepped O stands s ts (Err e) s') (led_line G s.centre h u l) (stepped_short O stands s s' forward (backward s.centre) e a)
+
+  module _ (lines : List (Line L)) where
     -- one line after the others
-    pub lines_joined : (i : ℕ) (x : Line L) → i < length list → x ≡ get_or list i x → (end : ℕ) (pool' pool'' : List (Record L)) (r : Result ℕ Exhausted) → length pool' ≡ length pool →
-        Stepped O stands d used pool (led G v h (ports_of G u (lines_of stands i list))) (Ok end) pool' → Stepped O stands d end pool' (led G v h (line_ports G u (line_of stands x))) r pool'' →
-        Stepped O stands d used pool (led G v h (ports_of G u (lines_of stands (i + 1) list))) r pool''
-    lines_joined i x inside read end pool' pool'' r long a b =
-        subst (λ (ts : List (Sight M)). Stepped O stands d used pool ts r pool'') (led_more G v h stands list u i x inside read)
-        (stepped_join O stands d used end pool pool' pool'' (led G v h (ports_of G u (lines_of stands i list))) (led G v h (line_ports G u (line_of stands x))) r long a b)
+    pub lines_joined : (i : ℕ) (x : Line L) → i < length lines → x ≡ get_or lines i x → (r : Result Unit Exhausted) →
+        Stepped O stands s (led G s.centre h (ports_of G u (map (line_of stands) (take i lines)))) (Ok tt) s' → Stepped O stands s' (led G s'.centre h (line_ports G u (line_of stands x))) r s'' →
+        Stepped O stands s (led G s.centre h (ports_of G u (map (line_of stands) (take (i + 1) lines)))) r s''
+    lines_joined i x inside read r a b =
+        subst (λ (ts : List (Sight M)). Stepped O stands s ts r s'') (led_more G s.centre h stands lines u i x inside read)
+        (stepped_join O stands s s' s'' (given G s.centre h stands lines u (take i lines)) (led G s.centre h (line_ports G u (line_of stands x))) r a
+        (subst (λ (v : ℕ). Stepped O stands s' (led G v h (line_ports G u (line_of stands x))) r s'') a.steady.centre b))
 
-    -- where the records do not suffice for the first i lines, they do not for k
-    pub lines_short : (i k : ℕ) → i ≤ k → (e : Exhausted) (pool' : List (Record L)) → Stepped O stands d used pool (led G v h (ports_of G u (lines_of stands i list))) (Err e) pool' →
-        Stepped O stands d used pool (led G v h (ports_of G u (lines_of stands k list))) (Err e) pool'
-    lines_short i k le e pool' a =
-        subst (λ (ts : List (Sight M)). Stepped O stands d used pool ts (Err e) pool') (led_split G v h stands list u i k le)
-        (stepped_short O stands d used pool pool' (led G v h (ports_of G u (lines_of stands i list))) (led G v h (ports_of G u (map (line_of stands) (drop i (take k list))))) e a)
+    -- where the records do not suffice for the first lines, they do not for all
+    pub lines_short : (i : ℕ) (e : Exhausted) → Stepped O stands s (led G s.centre h (ports_of G u (map (line_of stands) (take i lines)))) (Err e) s' →
+        Stepped O stands s (led G s.centre h (ports_of G u (map (line_of stands) lines))) (Err e) s'
+    lines_short i e a =
+        subst (λ (ts : List (Sight M)). Stepped O stands s ts (Err e) s') (led_split G s.centre h stands lines u i)
+        (stepped_short O stands s s' (given G s.centre h stands lines u (take i lines)) (given G s.centre h stands lines u (drop i lines)) e a)

@@ -1,7 +1,7 @@
 -- A sealed survey: the homes of the nodes in the first records.
 use Rattle.std.proofs.Common.{◌≡◌, ℕ, zero, suc, ◌+◌, ◌<◌, ◌≤◌, List, [], ◌∷◌, ◌++◌, map, length, take, set, Some, sym, ap, ◌∙◌, subst, arith}
 use Rattle.std.specs.List.{range_with_len, slice_get}
-use Rattle.std.proofs.lemmas.List.{take_more_set, map_push}
+use Rattle.std.proofs.lemmas.List.{take_more_set, take-append-le, map_push}
 use Rattle.std.proofs.lemmas.List.FromFn.{map-range_with_len_more}
 use Rattle.label.specs.Group.{Group}
 use Rattle.label.specs.Order.{Order}
@@ -15,7 +15,7 @@ use Rattle.growth.specs.Surveyed.{Surveyed}
 use Rattle.growth.proofs.Growths.{sealed}
 use Rattle.survey.specs.Found.{entry_of, sight_of, found}
 use Rattle.survey.specs.Searching.{Comes, begins, Searchable}
-use Rattle.survey.specs.Owns.{mark_of}
+use Rattle.survey.specs.Marks.{mark_of}
 use Rattle.survey.specs.Clauses.{Sealed}
 use Rattle.survey.specs.declared.records.Record.{Record}
 use Rattle.survey.specs.declared.surveys.Survey.{Survey}
@@ -41,6 +41,12 @@ module _ {L M : Type 0} (G : Group M) (O : Order M) (stands : L → M) where
       ∙ ap (λ (es : List (Entry M)). es ++ (entry_of stands r ∷ [])) before
       ∙ ap (λ (x : Entry M). map (home_entry G) (range_with_len 0 v) ++ (x ∷ [])) e
       ∙ sym (map-range_with_len_more (home_entry G) 0 v v (omega arith))
+
+  -- the homes stand before the other records
+  pub homes_first : (n m : ℕ) (homes rest : List (Record L)) → length homes ≡ m → m ≡ n → found stands m homes ≡ map (home_entry G) (range_with_len 0 m) → found stands n (homes ++ rest) ≡ map (home_entry G) (range_with_len 0 n)
+  homes_first n m homes rest long e f =
+      subst (λ (k : ℕ). found stands k (homes ++ rest) ≡ map (home_entry G) (range_with_len 0 k)) e
+      (ap (map (entry_of stands)) (take-append-le m homes rest (omega arith)) ∙ f)
 
   -- the search for a home begins at it
   pub homes_searchable : (pool : List (Record L)) (n : ℕ) → found stands n pool ≡ map (home_entry G) (range_with_len 0 n) → Searchable O stands n pool

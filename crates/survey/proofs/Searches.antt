@@ -1,5 +1,5 @@
 -- How searches in the records of a pool go on.
-use Rattle.std.proofs.Common.{◌≡◌, ℕ, Bool, true, false, ◌⊎◌, List, Some, Equal, sym, refl, ap, ◌∙◌, subst, inl, inr, arith}
+use Rattle.std.proofs.Common.{◌≡◌, ℕ, ◌⊎◌, List, Some, Equal, sym, refl, ap, ◌∙◌, subst, inl, inr, arith}
 use Rattle.std.specs.List.{slice_get}
 use Rattle.label.specs.Order.{Order}
 use Rattle.growth.specs.Entry.{Sight}
@@ -7,8 +7,10 @@ use Rattle.growth.specs.SightOrder.{sight_order}
 use Rattle.survey.specs.Found.{sight_of}
 use Rattle.survey.specs.Searching.{Leads, Goes, lesser, greater, Comes, begins, goes}
 use Rattle.survey.specs.Asking.{side_of, link_of, AlongClause, HasIt, Stops, TurnClause}
-use Rattle.survey.specs.declared.asked.Turn.{Turn}
-use Rattle.survey.specs.declared.asked.Turn.TheVariants as turn
+use Rattle.survey.specs.declared.search.Side.{Side}
+use Rattle.survey.specs.declared.search.Side.TheVariants as side
+use Rattle.survey.specs.declared.search.Turn.{Turn}
+use Rattle.survey.specs.declared.search.Turn.TheVariants as turn
 use Rattle.survey.specs.declared.records.Record.{Record}
 
 module _ {L M : Type 0} (O : Order M) (stands : L → M) (used : ℕ) (pool : List (Record L)) (x : Sight M) where
@@ -48,33 +50,33 @@ module _ {L M : Type 0} (O : Order M) (stands : L → M) (used : ℕ) (pool : Li
       ]
 
   -- where it stops there is nothing further
-  pub stopped_there : (i : ℕ) (side : Bool) (k : ℕ) → Stops O stands used pool x i side → HasIt O stands used pool x k → Comes O stands used pool x i k → ⊥
-  stopped_there i side k s h c =
+  pub stopped_there : (i : ℕ) (at : Side) (k : ℕ) → Stops O stands used pool x i at → HasIt O stands used pool x k → Comes O stands used pool x i k → ⊥
+  stopped_there i at k s h c =
       elim (first_step i k c) [
         | inl e ↦
             let q = equal_there i s.what s.read (subst (λ (w : ℕ). HasIt O stands used pool x w) (sym e) h) in
-            apart side (sym s.side ∙ q)
-        | inr m ↦ no_step side s m.0 m.1
+            apart at (sym s.side ∙ q)
+        | inr m ↦ no_step at s m.0 m.1
       ]
     where
-      apart : (b : Bool) → side_of b ≡ Equal → ⊥
-      apart true e = let z : ◌≡◌ {A = ℕ} 0 1 = cc in omega arith
-      apart false e = let z : ◌≡◌ {A = ℕ} 0 1 = cc in omega arith
+      apart : (b : Side) → side_of b ≡ Equal → ⊥
+      apart side.Greater e = let z : ◌≡◌ {A = ℕ} 0 1 = cc in omega arith
+      apart side.Lesser e = let z : ◌≡◌ {A = ℕ} 0 1 = cc in omega arith
 
-      no_step : (b : Bool) → Stops O stands used pool x i b → (j : ℕ) → Goes O stands used pool x i j → ⊥
-      no_step true t j (lesser r read d e l) = let same : r ≡ t.what = let w = t.read in cc in let g = t.side in let z : ◌≡◌ {A = ℕ} 0 1 = cc in omega arith
-      no_step true t j (greater r read d e l) = let same : r ≡ t.what = let w = t.read in cc in t.void (subst (λ (n : ℕ). Leads used i n) (e ∙ ap (λ (w : Record L). w.above) same) l)
-      no_step false t j (lesser r read d e l) = let same : r ≡ t.what = let w = t.read in cc in t.void (subst (λ (n : ℕ). Leads used i n) (e ∙ ap (λ (w : Record L). w.below) same) l)
-      no_step false t j (greater r read d e l) = let same : r ≡ t.what = let w = t.read in cc in let g = t.side in let z : ◌≡◌ {A = ℕ} 0 1 = cc in omega arith
+      no_step : (b : Side) → Stops O stands used pool x i b → (j : ℕ) → Goes O stands used pool x i j → ⊥
+      no_step side.Greater t j (lesser r read d e l) = let same : r ≡ t.what = let w = t.read in cc in let g = t.side in let z : ◌≡◌ {A = ℕ} 0 1 = cc in omega arith
+      no_step side.Greater t j (greater r read d e l) = let same : r ≡ t.what = let w = t.read in cc in t.void (subst (λ (n : ℕ). Leads used i n) (e ∙ ap (λ (w : Record L). w.above) same) l)
+      no_step side.Lesser t j (lesser r read d e l) = let same : r ≡ t.what = let w = t.read in cc in t.void (subst (λ (n : ℕ). Leads used i n) (e ∙ ap (λ (w : Record L). w.below) same) l)
+      no_step side.Lesser t j (greater r read d e l) = let same : r ≡ t.what = let w = t.read in cc in let g = t.side in let z : ◌≡◌ {A = ℕ} 0 1 = cc in omega arith
 
   -- how a search goes on along the link of its side
-  pub turned : (i : ℕ) (side : Bool) (r : Record L) → slice_get pool i ≡ Some r → (sight_order O).cmp x (sight_of stands r) ≡ side_of side → (t : Turn) → AlongClause used i (link_of side r) side t → TurnClause O stands used pool x i t
-  turned i side r read c turn.Here a = absurd a
-  turned i true r read c (turn.On j) a =
+  pub turned : (i : ℕ) (at : Side) (r : Record L) → slice_get pool i ≡ Some r → (sight_order O).cmp x (sight_of stands r) ≡ side_of at → (t : Turn) → AlongClause used i (link_of at r) at t → TurnClause O stands used pool x i t
+  turned i at r read c turn.Here a = absurd a
+  turned i side.Greater r read c (turn.On j) a =
       let l : Leads used i j = subst (λ (n : ℕ). Leads used i n) (sym a.0) a.1 in
       (greater r read c a.0 l, l.0, l.1)
-  turned i false r read c (turn.On j) a =
+  turned i side.Lesser r read c (turn.On j) a =
       let l : Leads used i j = subst (λ (n : ℕ). Leads used i n) (sym a.0) a.1 in
       (lesser r read c a.0 l, l.0, l.1)
-  turned i side r read c (turn.Stop b) a =
-      subst (λ (w : Bool). Stops O stands used pool x i w) (sym a.0) (record { what = r; read = read; side = c; void = a.1 })
+  turned i at r read c (turn.Stop b) a =
+      subst (λ (w : Side). Stops O stands used pool x i w) (sym a.0) (record { what = r; read = read; side = c; void = a.1 })

@@ -1,13 +1,13 @@
 -- Steps that add to the found list, one after another.
-use Rattle.std.proofs.Common.{◌≡◌, ℕ, ◌≤◌, List, [], ◌++◌, length, Ok, Err, Result, refl, ◌∙◌, subst, arith}
+use Rattle.std.proofs.Common.{ℕ, ◌≤◌, List, [], ◌++◌, length, Ok, Err, Result, refl, ◌∙◌, subst, arith}
 use Rattle.label.specs.Order.{Order}
 use Rattle.growth.specs.Entry.{Sight}
 use Rattle.growth.specs.Noted.{Noted, Overfull}
 use Rattle.growth.proofs.Notes.{noted_none, noted_join, overfull_left, overfull_right}
-use Rattle.survey.specs.Found.{found}
-use Rattle.survey.specs.Stepping.{Kept, Stepped, Enlarged, Sized}
+use Rattle.survey.specs.Stepping.{Kept, held, Stepped, Enlarged}
 use Rattle.survey.specs.declared.records.Record.{Record}
-use Rattle.survey.specs.declared.asked.Exhausted.{Exhausted}
+use Rattle.survey.specs.declared.shelling.Shelling.{Shelling}
+use Rattle.survey.specs.declared.search.Exhausted.{Exhausted}
 
 module _ {L M : Type 0} (O : Order M) (stands : L → M) where
   pub kept_itself : (used : ℕ) (pool : List (Record L)) → Kept O stands used pool pool
@@ -20,35 +20,35 @@ module _ {L M : Type 0} (O : Order M) (stands : L → M) where
   }
 
   -- nothing is asked
-  pub stepped_none : (d used : ℕ) (pool : List (Record L)) → used ≤ length pool → Stepped O stands d used pool [] (Ok used) pool
-  stepped_none d used pool h = record {
-    kept = kept_itself used pool;
-    sized = (omega arith, h);
-    enlarged = λ s. (noted_none d (found stands used pool), s);
+  pub stepped_none : (s : Shelling L) → Stepped O stands s [] (Ok tt) s
+  stepped_none s = record {
+    steady = record { centre = refl; distance = refl; long = refl; same = refl };
+    more = omega arith;
+    kept = kept_itself s.used s.pool.now;
+    enlarged = λ q. (noted_none s.distance (held O stands s), q);
   }
 
-  -- one step after another
-  pub stepped_join : (d used u : ℕ) (pool pool' pool'' : List (Record L)) (T U : List (Sight M)) (r : Result ℕ Exhausted) → length pool' ≡ length pool →
-      Stepped O stands d used pool T (Ok u) pool' → Stepped O stands d u pool' U r pool'' → Stepped O stands d used pool (T ++ U) r pool''
-  stepped_join d used u pool pool' pool'' T U r long a b = record {
-    kept = kept_join used u pool pool' pool'' a.sized.0 a.kept b.kept;
-    sized = further r b.sized;
-    enlarged = λ s. let n = a.enlarged s in joined r n.0 (b.enlarged n.1);
-  }
-    where
-      further : (q : Result ℕ Exhausted) → Sized O stands u pool' q → Sized O stands used pool q
-      further (Ok v) h = let m = a.sized.0 in let k = h.0 in let l = h.1 in (omega arith, omega arith)
-      further (Err e) h = tt
-
-      joined : (q : Result ℕ Exhausted) → Noted d (found stands used pool) T (found stands u pool') → Enlarged O stands d u pool' U q pool'' → Enlarged O stands d used pool (T ++ U) q pool''
-      joined (Ok v) n m = (noted_join d (found stands used pool) T (found stands u pool') U (found stands v pool'') n m.0, m.1)
-      joined (Err e) n m = overfull_right d (length pool) (found stands used pool) T (found stands u pool') U n (subst (λ (k : ℕ). Overfull d k (found stands u pool') U) long m)
+  module _ (s s' s'' : Shelling L) where
+    -- one step after another
+    pub stepped_join : (T U : List (Sight M)) (r : Result Unit Exhausted) → Stepped O stands s T (Ok tt) s' → Stepped O stands s' U r s'' → Stepped O stands s (T ++ U) r s''
+    stepped_join T U r a b = record {
+      steady = record { centre = b.steady.centre ∙ a.steady.centre; distance = b.steady.distance ∙ a.steady.distance; long = b.steady.long ∙ a.steady.long; same = b.steady.same ∙ a.steady.same };
+      more = let m = a.more in let n = b.more in omega arith;
+      kept = kept_join s.used s'.used s.pool.now s'.pool.now s''.pool.now a.more a.kept b.kept;
+      enlarged = λ q. let n = a.enlarged q in joined r n.0 (b.enlarged n.1);
+    }
+      where
+        joined : (q : Result Unit Exhausted) → Noted s.distance (held O stands s) T (held O stands s') → Enlarged O stands s' U q s'' → Enlarged O stands s (T ++ U) q s''
+        joined (Ok v) n m = (noted_join s.distance (held O stands s) T (held O stands s') U (held O stands s'') n (subst (λ (d : ℕ). Noted d (held O stands s') U (held O stands s'')) a.steady.distance m.0), m.1)
+        joined (Err e) n m =
+            overfull_right s.distance (length s.pool.now) (held O stands s) T (held O stands s') U n
+            (subst (λ (k : ℕ). Overfull s.distance k (held O stands s') U) a.steady.long (subst (λ (d : ℕ). Overfull d (length s'.pool.now) (held O stands s') U) a.steady.distance m))
 
   -- where the records do not suffice for some of what is asked, they do not for all
-  pub stepped_short : (d used : ℕ) (pool pool' : List (Record L)) (T U : List (Sight M)) (e : Exhausted) →
-      Stepped O stands d used pool T (Err e) pool' → Stepped O stands d used pool (T ++ U) (Err e) pool'
-  stepped_short d used pool pool' T U e a = record {
+  pub stepped_short : (s s' : Shelling L) (T U : List (Sight M)) (e : Exhausted) → Stepped O stands s T (Err e) s' → Stepped O stands s (T ++ U) (Err e) s'
+  stepped_short s s' T U e a = record {
+    steady = a.steady;
+    more = a.more;
     kept = a.kept;
-    sized = tt;
-    enlarged = λ s. overfull_left d (length pool) (found stands used pool) T U (a.enlarged s);
+    enlarged = λ q. overfull_left s.distance (length s.pool.now) (held O stands s) T U (a.enlarged q);
   }

@@ -1,7 +1,8 @@
 -- One record more in a pool: every search comes where it came, and the search for what is new comes to it.
-use Rattle.std.proofs.Common.{◌≡◌, ℕ, ◌+◌, ◌<◌, ◌≤◌, Bool, true, false, List, [], ◌∷◌, ◌++◌, map, length, take, set, Some, sym, refl, ap, ◌∙◌, subst, inl, inr, arith}
+use Rattle.std.proofs.Common.{◌≡◌, ℕ, ◌+◌, ◌<◌, ◌≤◌, List, [], ◌∷◌, ◌++◌, map, length, take, set, Some, sym, refl, ap, ◌∙◌, subst, inl, inr, arith}
 use Rattle.std.specs.List.{slice_get}
 use Rattle.std.proofs.lemmas.Bool.{cases_eq}
+use Rattle.std.proofs.lemmas.Option.{slice_get_within}
 use Rattle.std.proofs.lemmas.List.{take-map, map-set, length-set, take-set-le, take_more_set, map_push, length-map, length-take-le}
 use Rattle.label.specs.Order.{Order}
 use Rattle.mesh.specs.Listed.{In}
@@ -13,8 +14,10 @@ use Rattle.survey.specs.Searching.{Leads, Goes, lesser, greater, Comes, begins, 
 use Rattle.survey.specs.Asking.{side_of, link_of, HasIt, Stops, Missed}
 use Rattle.survey.specs.Stepping.{with_link, Linked, Kept}
 use Rattle.survey.specs.declared.records.Record.{Record}
-use Rattle.survey.specs.declared.asked.Place.{Place}
-use Rattle.survey.proofs.Places.{nth_set_same, nth_set_other, nth_there, nth_inside, set_there, nth_map, nth_take, in_nth, nth_in}
+use Rattle.survey.specs.declared.search.Place.{Place}
+use Rattle.survey.specs.declared.search.Side.{Side}
+use Rattle.survey.specs.declared.search.Side.TheVariants as side
+use Rattle.survey.proofs.Places.{nth_set_same, nth_set_other, nth_there, set_there, nth_map, nth_take, in_nth, nth_in}
 
 module _ {L M : Type 0} (O : Order M) (stands : L → M) where
   -- a search only goes up, and stays within the records in use
@@ -23,7 +26,7 @@ module _ {L M : Type 0} (O : Order M) (stands : L → M) where
   comes_up used pool x root k (goes {i = i} c (lesser r read d e l)) = let h = comes_up used pool x root i c in let m = l.0 in omega arith
   comes_up used pool x root k (goes {i = i} c (greater r read d e l)) = let h = comes_up used pool x root i c in let m = l.0 in omega arith
 
-  comes_inside : (used : ℕ) (pool : List (Record L)) (x : Sight M) (root k : ℕ) → root < used → Comes O stands used pool x root k → k < used
+  pub comes_inside : (used : ℕ) (pool : List (Record L)) (x : Sight M) (root k : ℕ) → root < used → Comes O stands used pool x root k → k < used
   comes_inside used pool x root k h begins = h
   comes_inside used pool x root k h (goes c (lesser r read d e l)) = l.1
   comes_inside used pool x root k h (goes c (greater r read d e l)) = l.1
@@ -64,68 +67,68 @@ module _ {L M : Type 0} (O : Order M) (stands : L → M) where
       subst (λ (t : Sight M). Comes O stands w' pool' t t.centre k) (sym same)
       (comes_kept w w' pool pool' le alike (sight_of stands old.0) old.0.centre k (omega arith) c)
 
-  module _ (used : ℕ) (pool pool' : List (Record L)) (x : Sight M) (root under : ℕ) (side : Bool) (e : Record L) (inside : under < used) (stops : Stops O stands used pool x under side) (linked : Linked used pool under side e pool') (room : used < length pool) where
+  module _ (used : ℕ) (pool pool' : List (Record L)) (x : Sight M) (root : ℕ) (place : Place) (e : Record L) (inside : place.under < used) (stops : Stops O stands used pool x place.under place.side) (linked : Linked used pool place e pool') (room : used < length pool) where
     -- what the record under which it is linked is, as the search that stopped there read it
     parent_is : linked.parent ≡ stops.what
     parent_is = let f = linked.read in let h = stops.read in cc
 
-    elsewhere : (i : ℕ) → (i ≡ under → ⊥) → i < used → slice_get pool' i ≡ slice_get pool i
+    elsewhere : (i : ℕ) → (i ≡ place.under → ⊥) → i < used → slice_get pool' i ≡ slice_get pool i
     elsewhere i n h =
         ap (λ (q : List (Record L)). slice_get q i) linked.wrote
-        ∙ nth_set_other (set pool under (with_link side used linked.parent)) used i e (λ u. let z : ⊥ = omega arith in z)
-        ∙ nth_set_other pool under i (with_link side used linked.parent) n
+        ∙ nth_set_other (set pool place.under (with_link place.side used linked.parent)) used i e (λ u. let z : ⊥ = omega arith in z)
+        ∙ nth_set_other pool place.under i (with_link place.side used linked.parent) n
 
-    at_parent : slice_get pool' under ≡ Some (with_link side used linked.parent)
+    at_parent : slice_get pool' place.under ≡ Some (with_link place.side used linked.parent)
     at_parent =
-        ap (λ (q : List (Record L)). slice_get q under) linked.wrote
-        ∙ nth_set_other (set pool under (with_link side used linked.parent)) used under e (λ u. let z : ⊥ = omega arith in z)
-        ∙ nth_set_same pool under (with_link side used linked.parent) (nth_inside pool under linked.parent linked.read)
+        ap (λ (q : List (Record L)). slice_get q place.under) linked.wrote
+        ∙ nth_set_other (set pool place.under (with_link place.side used linked.parent)) used place.under e (λ u. let z : ⊥ = omega arith in z)
+        ∙ nth_set_same pool place.under (with_link place.side used linked.parent) (slice_get_within pool place.under linked.parent linked.read)
 
     at_new : slice_get pool' used ≡ Some e
     at_new =
         ap (λ (q : List (Record L)). slice_get q used) linked.wrote
-        ∙ nth_set_same (set pool under (with_link side used linked.parent)) used e (let k = length-set pool under (with_link side used linked.parent) in omega arith)
+        ∙ nth_set_same (set pool place.under (with_link place.side used linked.parent)) used e (let k = length-set pool place.under (with_link place.side used linked.parent) in omega arith)
 
-    void : (w : ℕ) → w ≤ used → Leads w under (link_of side linked.parent) → ⊥
+    void : (w : ℕ) → w ≤ used → Leads w place.under (link_of place.side linked.parent) → ⊥
     void w le l =
         let m = l.1 in
-        stops.void (subst (λ (r : Record L). Leads used under (link_of side r)) parent_is (l.0, omega arith))
+        stops.void (subst (λ (r : Record L). Leads used place.under (link_of place.side r)) parent_is (l.0, omega arith))
 
     -- the link that is written led nowhere, so nothing that counted is changed
     alike_linked : (w : ℕ) → w ≤ used → (i : ℕ) (r : Record L) → i < w → slice_get pool i ≡ Some r → Alike w pool' i r
     alike_linked w le i r h read =
-        elim (cases_eq i under) [
+        elim (cases_eq i place.under) [
           | inl q ↦
               let s : linked.parent ≡ r = let f : slice_get pool i ≡ Some linked.parent = ap (slice_get pool) q ∙ linked.read in cc in
-              subst (λ (n : ℕ). Alike w pool' n r) (sym q) (subst (λ (t : Record L). Alike w pool' under t) s (changed side (void w le) at_parent))
+              subst (λ (n : ℕ). Alike w pool' n r) (sym q) (subst (λ (t : Record L). Alike w pool' place.under t) s (changed place.side (void w le) at_parent))
           | inr n ↦ record { now_there = r; read = elsewhere i n (omega arith) ∙ read; same_sight = refl; same_below = λ l. refl; same_above = λ l. refl }
         ]
       where
-        changed : (b : Bool) → (Leads w under (link_of b linked.parent) → ⊥) → slice_get pool' under ≡ Some (with_link b used linked.parent) → Alike w pool' under linked.parent
-        changed true v at = record { now_there = with_link true used linked.parent; read = at; same_sight = refl; same_below = λ l. refl; same_above = λ l. absurd (v l) }
-        changed false v at = record { now_there = with_link false used linked.parent; read = at; same_sight = refl; same_below = λ l. absurd (v l); same_above = λ l. refl }
+        changed : (b : Side) → (Leads w place.under (link_of b linked.parent) → ⊥) → slice_get pool' place.under ≡ Some (with_link b used linked.parent) → Alike w pool' place.under linked.parent
+        changed side.Greater v e = record { now_there = with_link side.Greater used linked.parent; read = e; same_sight = refl; same_below = λ l. refl; same_above = λ l. absurd (v l) }
+        changed side.Lesser v e = record { now_there = with_link side.Lesser used linked.parent; read = e; same_sight = refl; same_below = λ l. absurd (v l); same_above = λ l. refl }
 
-    same_entry : (b : Bool) → entry_of stands (with_link b used linked.parent) ≡ entry_of stands linked.parent
-    same_entry true = refl
-    same_entry false = refl
+    same_entry : (b : Side) → entry_of stands (with_link b used linked.parent) ≡ entry_of stands linked.parent
+    same_entry side.Greater = refl
+    same_entry side.Lesser = refl
 
     -- the other records stand for what they stood for
-    entries_parent : map (entry_of stands) (set pool under (with_link side used linked.parent)) ≡ map (entry_of stands) pool
+    entries_parent : map (entry_of stands) (set pool place.under (with_link place.side used linked.parent)) ≡ map (entry_of stands) pool
     entries_parent =
-        map-set (entry_of stands) pool under (with_link side used linked.parent)
-        ∙ ap (set (map (entry_of stands) pool) under) (same_entry side)
-        ∙ set_there (map (entry_of stands) pool) under (entry_of stands linked.parent) (nth_map (entry_of stands) pool under linked.parent linked.read)
+        map-set (entry_of stands) pool place.under (with_link place.side used linked.parent)
+        ∙ ap (set (map (entry_of stands) pool) place.under) (same_entry place.side)
+        ∙ set_there (map (entry_of stands) pool) place.under (entry_of stands linked.parent) (nth_map (entry_of stands) pool place.under linked.parent linked.read)
 
-    front_parent : (w : ℕ) → found stands w (set pool under (with_link side used linked.parent)) ≡ found stands w pool
+    front_parent : (w : ℕ) → found stands w (set pool place.under (with_link place.side used linked.parent)) ≡ found stands w pool
     front_parent w =
-        sym (take-map (entry_of stands) w (set pool under (with_link side used linked.parent)))
+        sym (take-map (entry_of stands) w (set pool place.under (with_link place.side used linked.parent)))
         ∙ ap (take w) entries_parent
         ∙ take-map (entry_of stands) w pool
 
     entries_kept : (w : ℕ) → w ≤ used → found stands w pool' ≡ found stands w pool
     entries_kept w le =
         ap (found stands w) linked.wrote
-        ∙ ap (map (entry_of stands)) (take-set-le w (set pool under (with_link side used linked.parent)) used e le)
+        ∙ ap (map (entry_of stands)) (take-set-le w (set pool place.under (with_link place.side used linked.parent)) used e le)
         ∙ front_parent w
 
     pub linked_kept : Kept O stands used pool pool'
@@ -137,14 +140,14 @@ module _ {L M : Type 0} (O : Order M) (stands : L → M) where
     -- the found list has one entry more, the last
     pub linked_found : found stands (used + 1) pool' ≡ found stands used pool ++ (entry_of stands e ∷ [])
     linked_found =
-        let q = set pool under (with_link side used linked.parent) in
+        let q = set pool place.under (with_link place.side used linked.parent) in
         ap (found stands (used + 1)) linked.wrote
-        ∙ ap (map (entry_of stands)) (take_more_set q used e (let k = length-set pool under (with_link side used linked.parent) in omega arith))
+        ∙ ap (map (entry_of stands)) (take_more_set q used e (let k = length-set pool place.under (with_link place.side used linked.parent) in omega arith))
         ∙ map_push (entry_of stands) (take used q) e
         ∙ ap (λ (es : List (Entry M)). es ++ (entry_of stands e ∷ [])) (front_parent used)
 
     -- and the search for it comes to it
-    pub linked_searchable : Comes O stands used pool x root under → root < used → x ≡ sight_of stands e → root ≡ e.centre → Searchable O stands used pool → Searchable O stands (used + 1) pool'
+    pub linked_searchable : Comes O stands used pool x root place.under → root < used → x ≡ sight_of stands e → root ≡ e.centre → Searchable O stands used pool → Searchable O stands (used + 1) pool'
     linked_searchable comes from same at s k r h read =
         elim (cases_eq k used) [
           | inl q ↦
@@ -152,13 +155,13 @@ module _ {L M : Type 0} (O : Order M) (stands : L → M) where
               subst (λ (n : ℕ). Comes O stands (used + 1) pool' (sight_of stands r) r.centre n) (sym q)
               (subst (λ (t : Record L). Comes O stands (used + 1) pool' (sight_of stands t) t.centre used) (sym new)
               (subst (λ (t : Sight M). Comes O stands (used + 1) pool' t e.centre used) same
-              (subst (λ (n : ℕ). Comes O stands (used + 1) pool' x n used) at (goes (comes_kept used (used + 1) pool pool' (omega arith) (alike_linked used (omega arith)) x root under from comes) (last_step side at_parent (ap (λ (t : Record L). (sight_order O).cmp x (sight_of stands t)) parent_is ∙ stops.side))))))
+              (subst (λ (n : ℕ). Comes O stands (used + 1) pool' x n used) at (goes (comes_kept used (used + 1) pool pool' (omega arith) (alike_linked used (omega arith)) x root place.under from comes) (last_step place.side at_parent (ap (λ (t : Record L). (sight_order O).cmp x (sight_of stands t)) parent_is ∙ stops.side))))))
           | inr n ↦ searchable_kept used (used + 1) pool pool' (omega arith) (omega arith) (alike_linked used (omega arith)) s k r (let z : k < used = omega arith in z) read
         ]
       where
-        last_step : (b : Bool) → slice_get pool' under ≡ Some (with_link b used linked.parent) → (sight_order O).cmp x (sight_of stands linked.parent) ≡ side_of b → Goes O stands (used + 1) pool' x under used
-        last_step true read c = greater (with_link true used linked.parent) read c refl (inside, omega arith)
-        last_step false read c = lesser (with_link false used linked.parent) read c refl (inside, omega arith)
+        last_step : (b : Side) → slice_get pool' place.under ≡ Some (with_link b used linked.parent) → (sight_order O).cmp x (sight_of stands linked.parent) ≡ side_of b → Goes O stands (used + 1) pool' x place.under used
+        last_step side.Greater read c = greater (with_link side.Greater used linked.parent) read c refl (inside, omega arith)
+        last_step side.Lesser read c = lesser (with_link side.Lesser used linked.parent) read c refl (inside, omega arith)
 
   -- what a search misses is not in a found list that can be searched
   pub missed_new : (used : ℕ) (pool : List (Record L)) (x : Sight M) (p : Place) → used ≤ length pool → Missed O stands used pool x x.centre p → Searchable O stands used pool → In x (sights (found stands used pool)) → ⊥

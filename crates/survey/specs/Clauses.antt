@@ -23,8 +23,6 @@ use Rattle.survey.specs.declared.records.Junction.{Junction}
 use Rattle.survey.specs.declared.records.Record.{Record}
 use Rattle.survey.specs.declared.surveys.Survey.{Survey}
 use Rattle.survey.specs.declared.refusals.SurveyRefusal.{SurveyRefusal}
-use Rattle.survey.specs.declared.refusals.Reach.{Reach}
-use Rattle.survey.specs.declared.refusals.Reach.TheVariants as reach
 
 module _ {L M : Type 0} (G : Group M) (O : Order M) (stands : L → M) where
   -- a survey of radius 0 of the draft's net, over the pool as it was lent
@@ -95,12 +93,12 @@ module _ {L M : Type 0} (G : Group M) (O : Order M) (stands : L → M) where
       (λ o. Owns G O stands s list pool → Next (net_of stands s.draft list) v k (junction_of stands floor) o) (Unit {0}) r
 
   -- the junction is that far from the home of v, and within the radius; or it is farther off, or on no walk
-  abbrev pub Reaches : Net M → (r v : ℕ) → mesh.Junction M → Reach → Type 0
-  Reaches net r v b (reach.At k) = (k ≤ r) × Distance (Link G net) k (mesh.home G v) b
-  Reaches net r v b reach.Beyond = Within (Link G net) r (mesh.home G v) b → ⊥
+  abbrev pub Reaches : Net M → (r v : ℕ) → mesh.Junction M → Option ℕ → Type 0
+  Reaches net r v b (Some k) = (k ≤ r) × Distance (Link G net) k (mesh.home G v) b
+  Reaches net r v b None = Within (Link G net) r (mesh.home G v) b → ⊥
 
   -- the answer of `distance`
-  abbrev pub DistanceClause : Survey → List (Line L) → List (Record L) → (v : ℕ) → Junction L → Result Reach SurveyRefusal → Type 0
+  abbrev pub DistanceClause : Survey → List (Line L) → List (Record L) → (v : ℕ) → Junction L → Result (Option ℕ) SurveyRefusal → Type 0
   DistanceClause s list pool v j r =
       Settled (DistanceBreaks s (length list) (length pool) v j.node) distance_rules
       (λ a. Owns G O stands s list pool → Reaches (net_of stands s.draft list) s.radius v (junction_of stands j) a) (Unit {0}) r

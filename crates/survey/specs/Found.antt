@@ -5,13 +5,9 @@ use Rattle.growth.specs.Entry.{Sight, Entry, about, at_distance}
 use Rattle.survey.specs.declared.records.Record.{Record}
 use Rattle.survey.specs.declared.records.Junction.{Junction}
 
--- the junction in a record
-abbrev pub junction_in : {L : Type 0} → Record L → Junction L
-junction_in r = record { node = r.node; label = r.label }
-
 -- the record of a junction about a centre, with no links
-abbrev pub blank_record : {L : Type 0} → ℕ → Junction L → ℕ → Record L
-blank_record v j d = record { centre = v; node = j.node; label = j.label; distance = d; below = 0; above = 0 }
+abbrev pub unlinked_record : {L : Type 0} → ℕ → Junction L → ℕ → Record L
+unlinked_record v j d = record { centre = v; junction = j; distance = d; below = 0; above = 0 }
 
 module _ {L M : Type 0} (stands : L → M) where
   -- a junction, its label read as what it stands for
@@ -20,7 +16,7 @@ module _ {L M : Type 0} (stands : L → M) where
 
   -- the junction of a record, as it is found about its centre
   abbrev pub sight_of : Record L → Sight M
-  sight_of r = about r.centre (mesh.spot r.node (stands r.label))
+  sight_of r = about r.centre (junction_of r.junction)
 
   abbrev pub entry_of : Record L → Entry M
   entry_of r = at_distance r.distance (sight_of r)

@@ -1,3 +1,4 @@
+pub mod Marks
 pub mod Found
 pub mod Searching
 pub mod Asking

@@ -1,5 +1,5 @@
 -- When list and pool are the survey's own: the list holds a drawn net, and the pool its balls up to the radius. Assumes nothing.
-use Rattle.std.specs.Prelude.{◌≡◌, ℕ, suc, ◌+◌, ◌-◌, ◌*◌, List, length, slice_index}
+use Rattle.std.specs.Prelude.{◌≡◌, ℕ, suc, ◌-◌, List, length}
 use Rattle.label.specs.Group.{Group}
 use Rattle.label.specs.Order.{Order}
 use Rattle.mesh.specs.Drawn.{Drawn}
@@ -7,13 +7,10 @@ use Rattle.net.specs.Model.{net_of}
 use Rattle.net.specs.declared.records.Line.{Line}
 use Rattle.growth.specs.Surveyed.{Surveyed}
 use Rattle.survey.specs.Found.{found}
+use Rattle.survey.specs.Marks.{mark_of}
 use Rattle.survey.specs.Searching.{Searchable}
 use Rattle.survey.specs.declared.records.Record.{Record}
 use Rattle.survey.specs.declared.surveys.Survey.{Survey}
-
--- the mark where the shell k of the node v begins; it ends at the mark of the next node
-abbrev pub mark_of : List ℕ → ℕ → ℕ → ℕ
-mark_of marks k v = slice_index marks (25 * k + v)
 
 -- how many records lie between the marks of the shell k of the node v
 abbrev pub size_of : Survey → ℕ → ℕ → ℕ

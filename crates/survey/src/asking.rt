@@ -1,19 +1,32 @@
-ghost use Rattle.std.specs.Prelude.{◌≡◌, suc, ◌≤◌, length};
+ghost use Rattle.std.specs.Prelude.{◌≡◌, ◌<◌, ◌≤◌, length, MatchResult};
 ghost use Rattle.net.specs.Verdict.{Settled};
 ghost use Rattle.survey.specs.Clauses.{CountClause, MemberClause, NextClause, DistanceClause};
 ghost use Rattle.survey.specs.Rules.{ShellBreaks, shell_rules};
 ghost use Rattle.survey.specs.Spans.{Spanned};
+ghost use Rattle.survey.specs.declared.refusals.SurveyRefusal.TheVariants.{NoSuchNode};
 
-use crate::asked::{Asked, Span};
 use crate::found::ask;
 use crate::records::{Junction, Record};
-use crate::refusals::{Reach, SurveyRefusal};
+use crate::refusals::SurveyRefusal;
 use crate::surveys::Survey;
 use label::Label;
 use least::{least_above, nth_least};
 use net::Line;
+use std::ops::Range;
 
+// The questions take the list and the pool anew each time, and a node and a shell by number, by a rule of the project: so these stand side by side.
 impl Survey {
+    // Refuses what is no node.
+    fn check_node(&self, v: u32) -> Result<(), SurveyRefusal>
+        ensures { MatchResult result (λ _. v < self.now.draft.nodes) (λ e. (e ≡ NoSuchNode) × (self.now.draft.nodes ≤ v)) }
+    {
+        if v < self.draft.nodes() {
+            Ok(())
+        } else {
+            Err(SurveyRefusal::NoSuchNode)
+        }
+    }
+
     // Where in the pool the shell k of the node v lies.
     fn span<L: Label>(
         &self,
@@ -21,23 +34,15 @@ impl Survey {
         pool: &[Record<L>],
         v: u32,
         k: u32,
-    ) -> Result<Span, SurveyRefusal>
+    ) -> Result<Range<usize>, SurveyRefusal>
         ensures { Settled (ShellBreaks self.now (length list.now) (length pool.now) v k 0) shell_rules (λ p. Spanned self.now (length pool.now) v k p) (Unit {0}) result }
     {
-        if !self.is_lent(list, pool) {
-            return Err(SurveyRefusal::OtherLength);
-        }
-        if v >= self.draft.nodes() {
-            return Err(SurveyRefusal::NoSuchNode);
-        }
+        self.check_lent(list, pool)?;
+        self.check_node(v)?;
         if k > self.radius {
             return Err(SurveyRefusal::BeyondRadius);
         }
-        let at = 25 * k as usize + v as usize;
-        Ok(Span {
-            from: self.marks[at] as usize,
-            to: self.marks[at + 1] as usize,
-        })
+        Ok(self.shell(v, k))
     }
 
     // How many junctions are in the shell k of the node v.
@@ -51,7 +56,7 @@ impl Survey {
         ensures { CountClause L.Label.group L.Label.order L.Label.stands self.now list.now pool.now v k result }
     {
         let span = self.span(list, pool, v, k)?;
-        Ok((span.to - span.from) as u32)
+        Ok(span.len() as u32)
     }
 
     // The junction of the shell k of the node v that has exactly i others of the shell before it, by node and then by label.
@@ -66,16 +71,13 @@ impl Survey {
         ensures { MemberClause L.Label.group L.Label.order L.Label.stands self.now list.now pool.now v k i result }
     {
         let span = self.span(list, pool, v, k)?;
-        let (from, to) = (span.from, span.to);
-        if i as usize >= to - from {
+        let shell = &pool[span];
+        if i as usize >= shell.len() {
             return Err(SurveyRefusal::NoSuchMember);
         }
-        let shell = &pool[from..to];
-        // own records differ, and then there is such a one
-        match nth_least(shell, i as usize) {
-            Some(member) => Ok(member.junction()),
-            None => Ok(shell[0].junction()),
-        }
+        // own records differ, and then there is such a one; other memory may hold one junction twice, and the contract allows no refusal there
+        let member = nth_least(shell, i as usize).unwrap_or(shell[0]);
+        Ok(member.junction)
     }
 
     // The least junction of the shell k of the node v after the given one, if there is one.
@@ -90,34 +92,28 @@ impl Survey {
         ensures { NextClause L.Label.group L.Label.order L.Label.stands self.now list.now pool.now v k floor result }
     {
         let span = self.span(list, pool, v, k)?;
-        let (from, to) = (span.from, span.to);
-        let shell = &pool[from..to];
         let after = Record::unlinked(v, floor, k);
-        match least_above(shell, Some(after)) {
-            Some(member) => Ok(Some(member.junction())),
-            None => Ok(None),
-        }
+        let member = least_above(&pool[span], Some(after));
+        Ok(member.map(|record| record.junction))
     }
 
-    // How far the junction is from the home of the node v.
+    // How far the junction is from the home of the node v: none if it is farther off than the radius, or on no walk.
+    // A `match` and no `ok().map(..)`: tried, and what is inferred of its closure leaves unproved whose distance it reads.
     pub fn distance<L: Label>(
         &self,
         list: &[Line<L>],
         pool: &[Record<L>],
         v: u32,
         to: Junction<L>,
-    ) -> Result<Reach, SurveyRefusal>
+    ) -> Result<Option<u32>, SurveyRefusal>
         ensures { DistanceClause L.Label.group L.Label.order L.Label.stands self.now list.now pool.now v to result }
     {
-        if !self.is_lent(list, pool) {
-            return Err(SurveyRefusal::OtherLength);
-        }
-        if v >= self.draft.nodes() || to.node >= self.draft.nodes() {
-            return Err(SurveyRefusal::NoSuchNode);
-        }
-        match ask(pool, self.used, v, to) {
-            Asked::Found(at) => Ok(Reach::At(pool[at].distance)),
-            Asked::Missing(_) => Ok(Reach::Beyond),
+        self.check_lent(list, pool)?;
+        self.check_node(v)?;
+        self.check_node(to.node)?;
+        match ask(&pool[..self.used], v, to) {
+            Ok(at) => Ok(Some(pool[at].distance)),
+            Err(_) => Ok(None),
         }
     }
 }

@@ -1,23 +1,31 @@
-ghost use Rattle.std.specs.Prelude.{◌≡◌, ◌<◌, ◌≤◌, length, MatchBool};
+ghost use Rattle.std.specs.Prelude.{◌≡◌, ◌<◌, ◌≤◌, length, suc, MatchResult};
 ghost use Rattle.survey.specs.Clauses.{GrowClause};
+ghost use Rattle.survey.specs.Marks.{mark_of};
 ghost use Rattle.survey.specs.Rules.{Strange};
 ghost use Rattle.survey.specs.Unfolding.{UnfoldClause};
+ghost use Rattle.survey.specs.declared.refusals.SurveyRefusal.TheVariants.{OtherLength};
 
-use crate::asked::Exhausted;
 use crate::records::Record;
 use crate::refusals::SurveyRefusal;
-use crate::shells::note_shell;
-use crate::surveys::{Frontier, Survey};
+use crate::search::Exhausted;
+use crate::shelling::Shelling;
+use crate::surveys::{Frontier, MARKS, MOST_RADIUS, Survey};
 use label::Label;
 use net::Line;
-
-// How far apart the marks of two radii are.
-const STRIDE: usize = 25;
-
-// The greatest radius.
-const MOST_ROUNDS: u32 = 16;
+use std::ops::Range;
 
 impl Survey {
+    // Where in the pool the shell k of the node v lies.
+    pub(crate) fn shell(&self, v: u32, k: u32) -> Range<usize>
+        requires { (v < self.now.draft.nodes) × (k ≤ self.now.radius) }
+        ensures begins { result.start ≡ mark_of self.now.marks k v }
+        ensures ends { result.end ≡ mark_of self.now.marks k (suc v) }
+    {
+        let marks = self.marks[k as usize];
+        let v = v as usize;
+        marks[v] as usize..marks[v + 1] as usize
+    }
+
     // Notes the next shell of each node after the other, and marks where each ends.
     fn unfold<L: Label>(
         &self,
@@ -27,24 +35,40 @@ impl Survey {
         requires { (self.now.radius < 16) × ((length list.now ≡ self.now.draft.room) × (length pool.old ≡ self.now.room)) }
         ensures { UnfoldClause L.Label.group L.Label.order L.Label.stands self.now list.now pool.old result pool.new }
     {
-        let last = STRIDE * self.radius as usize;
+        // `grow` has checked the list's length, so the draft's `drawn` would bring a refusal that never comes
+        let lines = &list[..self.draft.lines()];
         let mut used = self.used;
-        let mut marks = self.marks;
-        marks[last + STRIDE] = used as u32;
-        for v in 0..self.draft.nodes() {
-            let at = last + v as usize;
-            let (from, to) = (self.marks[at] as usize, self.marks[at + 1] as usize);
-            used = note_shell(&self.draft, list, pool, used, v, from, to, self.radius + 1)?;
-            marks[at + STRIDE + 1] = used as u32;
+        let mut marks = [0; MARKS];
+        marks[0] = used as u32;
+        let distance = self.radius + 1;
+        // by number: over a `zip` with the marks to write, an invariant has no name for those written so far
+        for centre in 0..self.draft.nodes() {
+            let mut shelling = Shelling {
+                pool,
+                used,
+                centre,
+                distance,
+            };
+            shelling.note_shell(lines, self.shell(centre, self.radius))?;
+            used = shelling.used;
+            marks[centre as usize + 1] = used as u32;
         }
         Ok(Frontier { used, marks })
     }
 
-    // Whether list and pool have the lengths that they had at opening and sealing.
-    pub(crate) fn is_lent<L: Label>(&self, list: &[Line<L>], pool: &[Record<L>]) -> bool
-        ensures { MatchBool result ((length list.now ≡ self.now.draft.room) × (length pool.now ≡ self.now.room)) (Strange self.now (length list.now) (length pool.now)) }
+    // Refuses a list or a pool of another length than at opening or sealing.
+    pub(crate) fn check_lent<L: Label>(
+        &self,
+        list: &[Line<L>],
+        pool: &[Record<L>],
+    ) -> Result<(), SurveyRefusal>
+        ensures { MatchResult result (λ _. (length list.now ≡ self.now.draft.room) × (length pool.now ≡ self.now.room)) (λ e. (e ≡ OtherLength) × Strange self.now (length list.now) (length pool.now)) }
     {
-        list.len() == self.draft.room() && pool.len() == self.room
+        if self.draft.drawn(list).is_ok() && pool.len() == self.room {
+            Ok(())
+        } else {
+            Err(SurveyRefusal::OtherLength)
+        }
     }
 
     // Raises the radius by 1 for all nodes.
@@ -55,21 +79,14 @@ impl Survey {
     ) -> Result<(), SurveyRefusal>
         ensures { GrowClause L.Label.group L.Label.order L.Label.stands self.old list.now pool.old result self.new pool.new }
     {
-        if !self.is_lent(list, pool) {
-            return Err(SurveyRefusal::OtherLength);
-        }
-        if self.radius >= MOST_ROUNDS {
+        self.check_lent(list, pool)?;
+        if self.radius >= MOST_RADIUS {
             return Err(SurveyRefusal::RadiusFull);
         }
-        match self.unfold(list, pool) {
-            Ok(frontier) => {
-                let Frontier { used, marks } = frontier;
-                self.radius += 1;
-                self.used = used;
-                self.marks = marks;
-                Ok(())
-            }
-            Err(_) => Err(SurveyRefusal::PoolFull),
-        }
+        let Frontier { used, marks } = self.unfold(list, pool)?;
+        self.radius += 1;
+        self.used = used;
+        self.marks[self.radius as usize] = marks;
+        Ok(())
     }
 }

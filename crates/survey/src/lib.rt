@@ -1,7 +1,6 @@
 // Surveys: the mesh of a sealed net, unfolded shell by shell into a lent pool.
 #![tactic(auto)]
 
-mod asked;
 mod asking;
 mod found;
 mod growing;
@@ -11,9 +10,11 @@ mod ranks;
 mod records;
 mod refusals;
 mod sealing;
+mod search;
+mod shelling;
 mod shells;
 mod surveys;
 
 pub use records::{Junction, Record};
-pub use refusals::{Reach, SurveyRefusal};
+pub use refusals::SurveyRefusal;
 pub use surveys::Survey;

@@ -1,47 +1,42 @@
 ghost use Rattle.std.specs.Prelude.{◌≡◌};
 ghost use Rattle.survey.specs.Numbers.{survey_number};
+ghost use Rattle.survey.specs.declared.refusals.SurveyRefusal.TheVariants.{PoolFull};
 
-// Why a call on a survey, or sealing, is refused.
+use crate::search::Exhausted;
+
+// Why a call on a survey, or sealing, is refused, by its number in the kit's table.
 #[derive(Clone, Copy, PartialEq, Eq, Debug)]
 pub enum SurveyRefusal {
     // no such node
-    NoSuchNode,
+    NoSuchNode = 7,
     // a line list or a pool of another length than at opening or sealing
-    OtherLength,
+    OtherLength = 12,
     // a pool of fewer records than nodes, or of more than 65,535
-    PoolSize,
+    PoolSize = 25,
     // the radius is 16
-    RadiusFull,
+    RadiusFull = 26,
     // the balls of the next radius, summed over all nodes, outnumber the pool's records
-    PoolFull,
+    PoolFull = 27,
     // the shell is beyond the radius
-    BeyondRadius,
-    // the shell has no so many members
-    NoSuchMember,
+    BeyondRadius = 28,
+    // the shell has no more members than asked for
+    NoSuchMember = 29,
 }
 
 impl SurveyRefusal {
-    // The number that the refusal has in the kit's table.
+    // The number that the refusal has in the kit's table: outside the kit refusals are kept and told by number.
     pub fn number(self) -> u8
         ensures { result ≡ survey_number self }
     {
-        match self {
-            SurveyRefusal::NoSuchNode => 7,
-            SurveyRefusal::OtherLength => 12,
-            SurveyRefusal::PoolSize => 25,
-            SurveyRefusal::RadiusFull => 26,
-            SurveyRefusal::PoolFull => 27,
-            SurveyRefusal::BeyondRadius => 28,
-            SurveyRefusal::NoSuchMember => 29,
-        }
+        self as u8
     }
 }
 
-// How far a junction is from the home of a node.
-#[derive(Clone, Copy, PartialEq, Eq, Debug)]
-pub enum Reach {
-    // at that distance, within the radius
-    At(u32),
-    // farther off than the radius, or on no walk
-    Beyond,
+// Written by hand, and so is its clause: it names the variant that `?` makes.
+impl From<Exhausted> for SurveyRefusal {
+    ghost from_gives = { λ _ e. e ≡ PoolFull };
+
+    fn from(_e: Exhausted) -> SurveyRefusal {
+        SurveyRefusal::PoolFull
+    }
 }

@@ -1,36 +1,32 @@
-ghost use Rattle.std.specs.Prelude.{◌≡◌, ◌<◌, ◌≤◌, length};
+ghost use Rattle.std.specs.Prelude.{◌≡◌, ℕ, ◌≤◌, map};
 ghost use Rattle.std.specs.List.{between};
-ghost use Rattle.net.specs.Model.{net_of};
+ghost use Rattle.net.specs.Model.{line_of};
 ghost use Rattle.growth.specs.Entry.{junctions};
 ghost use Rattle.growth.specs.Surveyed.{targets};
 ghost use Rattle.survey.specs.Found.{found};
 ghost use Rattle.survey.specs.Stepping.{Stepped};
 
-use crate::asked::Exhausted;
-use crate::neighbours::note_neighbours;
-use crate::records::Record;
+use crate::search::Exhausted;
+use crate::shelling::Shelling;
 use label::Label;
-use net::{Draft, Line};
+use net::Line;
+use std::ops::Range;
 
-// Notes where the ports of the records from one place to another lead.
-pub(crate) fn note_shell<L: Label>(
-    draft: &Draft,
-    list: &[Line<L>],
-    pool: &mut [Record<L>],
-    used: usize,
-    centre: u32,
-    from: usize,
-    to: usize,
-    distance: u32,
-) -> Result<usize, Exhausted>
-    requires part { (from ≤ to) × (to ≤ used) }
-    requires memory { (length list.now ≡ draft.now.room) × ((centre < used) × ((used ≤ length pool.old) × (length pool.old ≤ 65535))) }
-    ensures { Stepped L.Label.order L.Label.stands distance used pool.old (targets L.Label.group (net_of L.Label.stands draft.now list.now) centre (junctions (between from to (found L.Label.stands used pool.old)))) result pool.new }
-{
-    let mut end = used;
-    for at in from..to {
-        let junction = pool[at].junction();
-        end = note_neighbours(list, draft.lines(), pool, end, centre, junction, distance)?;
+impl<'a, L: Label> Shelling<'a, L> {
+    // Notes where the ports of the shell's records lead, which the lines give them.
+    pub(crate) fn note_shell(
+        &mut self,
+        lines: &[Line<L>],
+        shell: Range<usize>,
+    ) -> Result<(), Exhausted>
+        requires { (shell.start ≤ shell.end) × (shell.end ≤ self.old.used) }
+        ensures { (nodes : ℕ) → Stepped L.Label.order L.Label.stands self.old (targets L.Label.group (record { nodes = nodes; lines = map (line_of L.Label.stands) lines.now }) self.old.centre (junctions (between shell.start shell.end (found L.Label.stands self.old.used self.old.pool.now)))) result self.new }
+    {
+        // by place and not by item: noting writes the pool that the shell lies in
+        for at in shell {
+            let from = self.pool[at].junction;
+            self.note_neighbours(lines, from)?;
+        }
+        Ok(())
     }
-    Ok(end)
 }

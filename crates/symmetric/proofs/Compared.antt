@@ -1,22 +1,11 @@
--- The order of the numbers, and rows that tell lists apart.
-use Rattle.std.proofs.Common.{◌≡◌, ℕ, zero, suc, List, [], ◌∷◌, length, Less, Equal, refl, ap, ◌∙◌, arith}
-use Rattle.std.specs.Ordering.{ordering_reverse}
-use Rattle.std.proofs.lemmas.Bool.Decides.{nat_tests}
+-- Rows that tell lists apart, and how lists of one length compare.
+use Rattle.std.proofs.Common.{◌≡◌, ℕ, zero, suc, List, [], ◌∷◌, length, refl, ap, ◌∙◌, arith}
+use Rattle.std.specs.Ordering.{ordering_then, nat_cmp}
+use Rattle.std.specs.Cmp.Lexicographic.{slice_cmp}
+use Rattle.label.specs.NumberOrder.{number_order}
 use Rattle.symmetric.specs.Images.{Perm}
-use Rattle.symmetric.specs.FromLeft.{Row, row, cmp_number}
+use Rattle.symmetric.specs.FromLeft.{Row, row, row_order}
 use Rattle.symmetric.proofs.Laws.{perm_same, facts}
-
-pub cmp_itself : (x : ℕ) → cmp_number x x ≡ Equal
-cmp_itself x = grind (arith, nat_tests)
-
-pub cmp_same : (x y : ℕ) → cmp_number x y ≡ Equal → x ≡ y
-cmp_same x y e = grind (arith, nat_tests)
-
-pub cmp_turned : (x y : ℕ) → cmp_number y x ≡ ordering_reverse (cmp_number x y)
-cmp_turned x y = grind (arith, nat_tests)
-
-pub cmp_chain : (x y z : ℕ) → cmp_number x y ≡ Less → cmp_number y z ≡ Less → cmp_number x z ≡ Less
-cmp_chain x y z e f = grind (arith, nat_tests)
 
 -- lists of one length whose rows are the same
 pub row_apart : (n : ℕ) (xs ys : List ℕ) → length xs ≡ n → length ys ≡ n → row n xs ≡ row n ys → xs ≡ ys
@@ -31,3 +20,12 @@ row_apart (suc n) (x ∷ xs) (y ∷ ys) l m e =
 
 pub perms_apart : (p q : Perm) → row 8 p.0 ≡ row 8 q.0 → p ≡ q
 perms_apart p q e = perm_same p q (row_apart 8 p.0 q.0 (facts p).len (facts q).len e)
+
+-- lists of one length compare as their rows
+pub rows_compare : (n : ℕ) (xs ys : List ℕ) → length xs ≡ n → length ys ≡ n → slice_cmp nat_cmp xs ys ≡ (row_order number_order n).cmp (row n xs) (row n ys)
+rows_compare zero [] [] l m = refl
+rows_compare zero [] (y ∷ ys) l m = absurd (let z : ⊥ = omega arith in z)
+rows_compare zero (x ∷ xs) ys l m = absurd (let z : ⊥ = omega arith in z)
+rows_compare (suc n) [] ys l m = absurd (let z : ⊥ = omega arith in z)
+rows_compare (suc n) (x ∷ xs) [] l m = absurd (let z : ⊥ = omega arith in z)
+rows_compare (suc n) (x ∷ xs) (y ∷ ys) l m = ap (ordering_then (nat_cmp x y)) (rows_compare n xs ys (omega arith) (omega arith))

@@ -1,7 +1,7 @@
 -- Eight images read and written again.
-use Rattle.std.proofs.Common.{◌≡◌, ℕ, zero, suc, ◌<◌, ◌≤◌, Bool, true, false, ◌&&◌, ltb, leb, List, [], ◌∷◌, map, length, get_or, replicate, ℤ, pos, negsuc, Some, None, sym, refl, ap, ◌∙◌, subst, inl, inr, map-id, arith, ltb-true}
+use Rattle.std.proofs.Common.{◌≡◌, ℕ, zero, suc, ◌<◌, ◌≤◌, Bool, true, false, ◌&&◌, ltb, leb, List, [], ◌∷◌, map, length, replicate, ℤ, pos, negsuc, Some, None, sym, refl, ap, ◌∙◌, subst, map-id, arith, ltb-true}
 use mathlib.Core.List.{map-map}
-use Rattle.std.proofs.lemmas.Bool.{and_parts, and_from, le-leb, both_ways, cases_Bool}
+use Rattle.std.proofs.lemmas.Bool.{and_parts, and_from, le-leb, both_ways}
 use Rattle.label.specs.Form.{inside, fit}
 use Rattle.symmetric.specs.Images.{points, permutes, Perm}
 use Rattle.symmetric.specs.Written.{image_slot, image_slots, point_of, perm_if, perm_of, perm_read, perm_told}
@@ -33,17 +33,6 @@ told_read (suc n) [] f = refl
 told_read (suc n) (pos x ∷ xs) f =
     ap (λ (zs : List ℤ). pos x ∷ zs) (told_read n xs (and_parts (inside image_slot (pos x)) (fit (replicate n image_slot) xs) f).1)
 told_read (suc n) (negsuc x ∷ xs) f = absurd (let t : ◌≡◌ {A = ℕ} 0 1 = cc in let z : ⊥ = omega arith in z)
-
-fit_at : (n : ℕ) (xs : List ℤ) (i : ℕ) → fit (replicate n image_slot) xs ≡ true → i < length xs → inside image_slot (get_or xs i (pos 0)) ≡ true
-fit_at n [] i f h = absurd (let z : ⊥ = omega arith in z)
-fit_at zero (x ∷ xs) i f h = absurd (let t : ◌≡◌ {A = ℕ} 0 1 = cc in let z : ⊥ = omega arith in z)
-fit_at (suc n) (x ∷ xs) zero f h = (and_parts (inside image_slot x) (fit (replicate n image_slot) xs) f).0
-fit_at (suc n) (x ∷ xs) (suc i) f h = fit_at n xs i (and_parts (inside image_slot x) (fit (replicate n image_slot) xs) f).1 (omega arith)
-
--- with a number that is no point they are out of range
-pub fit_not : (xs : List ℤ) (i : ℕ) → i < length xs → inside image_slot (get_or xs i (pos 0)) ≡ false → fit image_slots xs ≡ false
-fit_not xs i h e =
-    elim (cases_Bool (fit image_slots xs)) [ inl f ↦ absurd (both_ways (inside image_slot (get_or xs i (pos 0))) e (fit_at 8 xs i f h)) | inr f ↦ f ]
 
 read_told : (xs : List ℕ) → map point_of (map pos xs) ≡ xs
 read_told xs = map-map point_of pos xs ∙ map-id xs

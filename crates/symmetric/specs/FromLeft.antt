@@ -1,7 +1,6 @@
 -- Rows of n elements, ordered from the left, for any order of the elements. Assumes nothing.
-use Rattle.std.specs.Prelude.{◌≡◌, ℕ, zero, suc, cond, List, [], ◌∷◌, nat_lt, refl}
-use Rattle.std.specs.declared.cmp.Ordering.TheVariants.{Less, Equal, Greater}
-use Rattle.std.specs.declared.cmp.Ordering.{Ordering}
+use Rattle.std.specs.Prelude.{ℕ, zero, suc, List, [], ◌∷◌, refl}
+use Rattle.std.specs.declared.cmp.Ordering.TheVariants.{Equal}
 use Rattle.label.specs.Order.{Order, pair_order}
 
 -- a row of n elements: a first one, and a row of the others
@@ -28,17 +27,3 @@ abbrev pub row : (n : ℕ) → List ℕ → Row ℕ n
 row zero xs = tt
 row (suc n) [] = (0, row n [])
 row (suc n) (x ∷ xs) = (x, row n xs)
-
--- an order taken over along a map that keeps different things apart
-abbrev pub order_by : {A B : Type 0} (f : A → B) → ((x y : A) → f x ≡ f y → x ≡ y) → Order B → Order A
-order_by f apart O = record {
-  cmp = λ x y. O.cmp (f x) (f y);
-  itself = λ x. O.itself (f x);
-  same = λ x y e. apart x y (O.same (f x) (f y) e);
-  turned = λ x y. O.turned (f x) (f y);
-  chain = λ x y z. O.chain (f x) (f y) (f z);
-}
-
--- which of two numbers is less
-abbrev pub cmp_number : ℕ → ℕ → Ordering
-cmp_number x y = cond (nat_lt x y) Less (cond (nat_lt y x) Greater Equal)

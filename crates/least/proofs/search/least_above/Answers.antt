@@ -1,9 +1,9 @@
-use Rattle.std.proofs.Common.{◌<◌, ◌≤◌, List, length, take, Some, subst, arith}
-use Rattle.std.proofs.lemmas.List.{take_all}
-use Rattle.least.specs.Least.{LeastClause}
-use Rattle.least.proofs.Fold.{taken, kept, one_more}
+use Rattle.std.proofs.Common.{◌≡◌, ◌<◌, true, MatchBool, length, take, Some, arith, rules}
+use Rattle.std.specs.Prelude.{MatchOption}
+use Rattle.least.specs.Bounds.{Lower}
+use Rattle.least.proofs.Fold.{above_floor, below_least, taken, kept, one_more}
 use Rattle.least.proofs.search.least_above.Goals as goal
-use Rattle.least.proofs.search.least_above.Goals.{then-is_above+then-is_below, else-is_above, else-is_above-via-then-is_above+else-is_below, else-is_above-via-else-is_above}
+use Rattle.least.proofs.search.least_above.Goals.{then-above+then-is_none_or, else-above, else-above-via-then-above+else-is_none_or, else-above-via-else-above}
 
 pub loop-entry-preserved : goal.loop-entry-preserved
 loop-entry-preserved g c =
@@ -15,20 +15,19 @@ loop-entry-preserved g c =
     let before = take i c.args.entries.now in
     let inside : i < length c.args.entries.now = omega arith in
     let grown = one_more O rank c.args.entries.now c.args.floor i x inside c.entry-item.is in
-    elim c.if-is_above.branch [
-      | then-is_above+then-is_below w ↦
-          grown (Some x) c.if-is_above.least w.least-is
-          (taken O rank before c.args.floor x best c.loop-entry.invariant w.if-is_above.ensures w.if-is_below.ensures)
-      | else-is_above w ↦
-          grown best c.if-is_above.least w.least-is
-          (kept O rank before c.args.floor x best c.loop-entry.invariant (λ above below. elim w.else-is_above.branch [
-            | else-is_above-via-then-is_above+else-is_below v ↦ v.if-is_below.ensures below
-            | else-is_above-via-else-is_above v ↦ v.if-is_above.ensures above
+    let asked : MatchOption c.args.floor (c.is_none_or-above.result ≡ true) (λ m. MatchBool c.is_none_or-above.result (Lower O rank m x) (Lower O rank m x → ⊥)) = search rules in
+    let above = above_floor O rank x c.args.floor c.is_none_or-above.result asked in
+    elim c.if-above.branch [
+      | then-above+then-is_none_or w ↦
+          let lower : MatchOption best (w.is_none_or.result ≡ true) (λ m. MatchBool w.is_none_or.result (Lower O rank x m) (Lower O rank x m → ⊥)) = search rules in
+          let below = below_least O rank x best w.is_none_or.result lower in
+          grown (Some x) c.if-above.least w.least-is (taken O rank before c.args.floor x best c.loop-entry.invariant (above.0 w.if-above.true) (below.0 w.if-is_none_or.true))
+      | else-above w ↦
+          grown best c.if-above.least w.least-is
+          (kept O rank before c.args.floor x best c.loop-entry.invariant (λ up down. elim w.else-above.branch [
+            | else-above-via-then-above+else-is_none_or v ↦
+                let lower : MatchOption best (v.is_none_or.result ≡ true) (λ m. MatchBool v.is_none_or.result (Lower O rank x m) (Lower O rank x m → ⊥)) = search rules in
+                (below_least O rank x best v.is_none_or.result lower).1 v.if-is_none_or.false down
+            | else-above-via-else-above v ↦ above.1 v.if-above.false up
           ]))
     ]
-
-pub returns : goal.returns
-returns g c =
-    let all : length c.args.entries.now ≤ c.loop-entry.entry-index = omega arith in
-    subst (λ (xs : List g.row.T.Denot). LeastClause g.T.Ranked.order g.T.Ranked.rank xs c.args.floor c.loop-entry.least)
-    (take_all c.loop-entry.entry-index c.args.entries.now all) c.loop-entry.invariant

@@ -4,6 +4,6 @@ use Rattle.net.proofs.ports.port_count.Goals as goal
 
 pub loop-i-preserved : goal.loop-i-preserved
 loop-i-preserved g c =
-    let inside : c.loop-i.i < length c.args.list.now = omega arith in
-    let more = count_more g.L.Label.stands c.args.list.now g.L.Label.group c.args.node c.loop-i.i c.index-list-i.result inside c.index-list-i.is in
+    let inside : c.loop-i.i < length c.args.lines.now = omega arith in
+    let more = count_more g.L.Label.stands g.L.Label.group c.args.node c.args.lines.now c.loop-i.i c.index-lines-i.result inside c.index-lines-i.is in
     (omega arith, omega arith)

@@ -10,8 +10,8 @@ step xs i m l h =
     ap (λ (ys : List ℕ). ys ++ digits_of (8 - (i + 1)) (m / 8)) (take_more_set xs i (m % 8) (omega arith))
     ∙ append_assoc (take i xs) (m % 8 ∷ []) (digits_of (8 - (i + 1)) (m / 8)) ∙ ap (λ (k : ℕ). take i xs ++ digits_of k m) e
 
-pub loop-i-preserved : goal.loop-i-preserved
-loop-i-preserved c = (simp length-set c.loop-i.invariant.0, step c.loop-i.images c.loop-i.i c.loop-i.rest c.loop-i.invariant.0 (omega arith) ∙ c.loop-i.invariant.1)
+pub loop-image-preserved : goal.loop-image-preserved
+loop-image-preserved c = (simp length-set c.loop-image.invariant.0, step c.loop-image.image-items c.loop-image.image-index c.loop-image.rest c.loop-image.invariant.0 (omega arith) ∙ c.loop-image.invariant.1)
 
 done : (xs : List ℕ) (i m : ℕ) → length xs ≡ 8 → 8 ≡ i → take i xs ++ digits_of (8 - i) m ≡ xs
 done xs i m l e =
@@ -19,4 +19,4 @@ done xs i m l e =
     ap (λ (k : ℕ). take i xs ++ digits_of k m) z ∙ append-nil (take i xs) ∙ take_all i xs (omega arith)
 
 pub returns : goal.returns
-returns c = sym (done c.loop-i.images c.loop-i.i c.loop-i.rest c.loop-i.invariant.0 (omega arith)) ∙ c.loop-i.invariant.1
+returns c = sym (done c.loop-image.image-items c.loop-image.image-index c.loop-image.rest c.loop-image.invariant.0 (omega arith)) ∙ c.loop-image.invariant.1

@@ -1,25 +1,28 @@
-use Rattle.std.proofs.Common.{◌+◌, ◌<◌, length, Some, None, vec_items, sym, ap, ◌∙◌, append-nil, arith}
-use Rattle.report.proofs.Reading.{after, hex_at_blank, hex_at_odd, hex_at_two, hex_at_end, after_byte}
+use Rattle.std.proofs.Common.{ℕ, List, ◌∷◌, Some, vec_items, sym, ap, ◌∙◌, append-nil}
+use Rattle.report.specs.Hex.{hex}
+use Rattle.report.proofs.Reading.{after, hex_blank, hex_odd, hex_two, hex_nothing, after_byte}
 use Rattle.report.proofs.hex.hex_bytes.Goals as goal
 
-pub loop-at-preserved-then-is_blank : goal.loop-at-preserved-then-is_blank
-loop-at-preserved-then-is_blank c =
-    (omega arith, c.loop-at.invariant.1 ∙ ap (after _) (hex_at_blank _ _ c.loop-at-test.true (sym c.if-is_blank.ensures)))
+pub loop-high-preserved-then-is_blank : goal.loop-high-preserved-then-is_blank
+loop-high-preserved-then-is_blank c =
+    c.loop-high.invariant ∙ ap (after _) (ap hex c.in-Some.ensures.cases.0 ∙ hex_blank _ _ (sym c.is_blank.ensures ∙ c.if-is_blank.true))
 
-pub returns-then-text-at-eq1 : goal.returns-then-text-at-eq1
-returns-then-text-at-eq1 c =
-    c.loop-at.invariant.1 ∙ ap (after _) (hex_at_odd _ _ c.if-text-at-eq1.true (sym c.if-is_blank.ensures))
+pub returns-in_default-split_first : goal.returns-in_default-split_first
+returns-in_default-split_first c =
+    c.loop-high.invariant ∙ ap (after _) (ap hex c.in-Some.ensures.cases.0 ∙ hex_odd _ _ c.in_default-split_first.ensures.cases (sym c.is_blank.ensures ∙ c.if-is_blank.false))
 
-pub returns-in_default : goal.returns-in_default
-returns-in_default c =
-    let two : c.loop-at.at + 1 < length c.args.text.now = omega arith in
-    c.loop-at.invariant.1 ∙ ap (after _) (hex_at_two _ _ None two (sym c.if-is_blank.ensures) c.in_default.ensures)
+pub returns-in_default-byte : goal.returns-in_default-byte
+returns-in_default-byte c =
+    let two = ap hex c.in-Some.ensures.cases.0 ∙ ap (λ (t : List ℕ). hex (c.in-Some.high.now ∷ t)) c.in-Some-split_first.ensures.cases.0
+    ∙ hex_two _ _ _ (sym c.is_blank.ensures ∙ c.if-is_blank.false) in
+    c.loop-high.invariant ∙ ap (after _) (rw (sym c.in_default-byte.ensures) at two)
 
-pub loop-at-preserved : goal.loop-at-preserved
-loop-at-preserved c =
-    let two : c.loop-at.at + 1 < length c.args.text.now = omega arith in
-    let told = hex_at_two _ _ (Some c.in-Some.b) two (sym c.if-is_blank.ensures) c.in-Some.ensures in
-    (omega arith, c.loop-at.invariant.1 ∙ ap (after _) told ∙ after_byte (vec_items c.loop-at.bytes) (vec_items c.push.new.self) c.in-Some.b _ c.in_ok-push.ensures.items)
+pub loop-high-preserved : goal.loop-high-preserved
+loop-high-preserved c =
+    let two = ap hex c.in-Some.ensures.cases.0 ∙ ap (λ (t : List ℕ). hex (c.in-Some.high.now ∷ t)) c.in-Some-split_first.ensures.cases.0
+    ∙ hex_two _ _ _ (sym c.is_blank.ensures ∙ c.if-is_blank.false) in
+    c.loop-high.invariant ∙ ap (after _) (rw (sym c.in-Some-byte.ensures) at two)
+    ∙ after_byte (vec_items c.loop-high.bytes) (vec_items c.push.new.self) c.in-Some-byte.b _ c.in_ok-push.ensures.items
 
 pub returns : goal.returns
-returns c = c.loop-at.invariant.1 ∙ ap (after _) (hex_at_end _ _ c.loop-at-test.false) ∙ ap Some (append-nil _)
+returns c = c.loop-high.invariant ∙ ap (after _) (hex_nothing _ c.in_default.ensures.cases) ∙ ap Some (append-nil _)

@@ -6,8 +6,8 @@ returns g c =
     let G = g.K.Label.group in
     let F = g.K.Label.form in
     let stands = g.K.Label.stands in
-    let kind = g.K.SheetKind.kind in
-    let small = g.met.K.SheetKind.small in
+    let kind = g.K.SheetKind.KIND in
+    let small = g.K.SheetKind.small in
     record {
       again = written_again G F stands kind small;
       back = read_again G F stands kind small;

@@ -6,5 +6,5 @@ use Rattle.permutation.proofs.kind.PackedNumberLabel.compare.Goals as goal
 
 pub returns : goal.returns
 returns c =
-    c.compare.ensures ∙ ap (λ (p : Perm). perm_order.cmp p (perm c.of-2.result)) c.of.ensures
-    ∙ ap (perm_order.cmp (perm_packed c.args.self.0)) c.of-2.ensures
+    c.compare.ensures ∙ ap (λ (p : Perm). perm_order.cmp p (perm c.from-2.result)) c.from.ensures
+    ∙ ap (perm_order.cmp (perm_packed c.args.self.0)) c.from-2.ensures

@@ -6,5 +6,5 @@ use Rattle.permutation.proofs.kind.PackedNumberLabel.product.Goals as goal
 
 pub returns : goal.returns
 returns c =
-    c.number.ensures.0 ∙ c.then.ensures ∙ ap (λ (p : Perm). mul p (perm c.of-second.result)) c.of-first.ensures
-    ∙ ap (mul (perm_packed c.args.self.0)) c.of-second.ensures
+    c.into.ensures.0 ∙ c.then.ensures ∙ ap (λ (p : Perm). mul p (perm c.from-second.result)) c.from-first.ensures
+    ∙ ap (mul (perm_packed c.args.self.0)) c.from-second.ensures

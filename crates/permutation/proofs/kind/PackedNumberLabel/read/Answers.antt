@@ -21,17 +21,17 @@ ranged xs zs e l p = ap (fit image_slots) e ∙ fit_points 8 xs l p
 
 pub returns-then-not-all_once : goal.returns-then-not-all_once
 returns-then-not-all_once c =
-    let xs = c.in-Some.images in
+    let xs = c.in_ok-images.images in
     let l : length xs ≡ 8 = search rules in
-    let e = c.in-Some.ensures in
+    let e = rw c.in_ok-images.ensures.ok_part at c.images_in.ensures in
     refused _ (ranged xs c.args.numbers.now e.0 l e.1)
     (ap perm_read e.0 ∙ perm_read_no xs (and_right (eqb (length xs) 8) (points xs && each_once xs) (and_right (points xs) (each_once xs) (sym c.if-not-all_once.ensures))))
 
 pub returns : goal.returns
 returns c =
-    let xs = c.in-Some.images in
+    let xs = c.in_ok-images.images in
     let l : length xs ≡ 8 = search rules in
-    let e = c.in-Some.ensures in
+    let e = rw c.in_ok-images.ensures.ok_part at c.images_in.ensures in
     let g = permutes_from xs l e.1 (sym c.if-not-all_once.ensures) in
-    taken _ (ranged xs c.args.numbers.now e.0 l e.1) c.number.result (xs, g) (ap perm_read e.0 ∙ perm_read_yes xs g)
-    (c.number.ensures.0 ∙ perm_same _ _ c.with_images.ensures)
+    taken _ (ranged xs c.args.numbers.now e.0 l e.1) c.into.result (xs, g) (ap perm_read e.0 ∙ perm_read_yes xs g)
+    (c.into.ensures.0 ∙ perm_same _ _ c.with_images.ensures)

@@ -1,10 +1,11 @@
-use Rattle.std.proofs.Common.{refl}
-use Rattle.net.specs.Verdict.{here}
-use Rattle.survey.proofs.Lents.{lent_known}
+use Rattle.std.proofs.Common.{false, length, sym, refl, subst}
+use Rattle.net.specs.Verdict.{First, here}
+use Rattle.survey.specs.Rules.{GrowBreaks, reopen_rules}
+use Rattle.survey.specs.declared.refusals.SurveyRefusal.{SurveyRefusal}
 use Rattle.survey.proofs.surveys.Survey.reopen.Goals as goal
 
-pub returns-then-not-is_lent : goal.returns-then-not-is_lent
-returns-then-not-is_lent g c = (here c.if-not-is_lent.ensures, refl)
-
-pub returns : goal.returns
-returns g c = ((lent_known c.args.self _ _ c.if-not-is_lent.ensures, tt), refl)
+pub returns-in-Err : goal.returns-in-Err
+returns-in-Err g c = (
+  subst (λ (e : SurveyRefusal). First (GrowBreaks c.args.self (length c.args.list.now) (length c.args.pool.now) false) e reopen_rules) (sym c.in-Err.ensures.0) (here c.in-Err.ensures.1),
+  refl,
+)

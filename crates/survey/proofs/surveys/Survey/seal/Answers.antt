@@ -1,8 +1,7 @@
-use Rattle.std.proofs.Common.{◌≡◌, ℕ, ◌+◌, ◌*◌, ◌<◌, ◌≤◌, ◌≢◌, ◌⊎◌, map, length, get_or, refl, ap, ◌∙◌, subst, inl, inr, arith}
-use Rattle.std.specs.List.{range_with_len}
+use Rattle.std.proofs.Common.{◌≡◌, ℕ, suc, ◌<◌, ◌≢◌, ◌⊎◌, ◌++◌, length, take, drop, length-append, length-drop, get_or, refl, ◌∙◌, inl, inr, arith, rules}
+use Rattle.std.proofs.lemmas.List.{length-take-le}
 use Rattle.net.specs.Verdict.{here, later}
-use Rattle.survey.specs.Found.{found}
-use Rattle.survey.proofs.Seals.{home_entry, seal_done}
+use Rattle.survey.proofs.Seals.{homes_first, seal_done}
 use Rattle.survey.proofs.surveys.Survey.seal.Goals as goal
 
 pub returns-then-list-room : goal.returns-then-list-room
@@ -16,34 +15,36 @@ returns-then-pool-nodes g c =
     let size : (length c.args.pool.now < c.args.draft.nodes) ⊎ (65535 < length c.args.pool.now) = elim c.then-pool-nodes.either [ inl h ↦ inl (omega arith) | inr h ↦ inr h.1 ] in
     (later own (here size), (refl, refl))
 
--- the mark of the radius 0
-marked : (marks : _) → ((v : ℕ) → v < 25 → get_or marks v 0 ≡ v) → (k v at : ℕ) → k ≤ 0 → 25 * k + v ≡ at → at < 25 → get_or marks (25 * k + v) 0 ≡ at
-marked marks m k v at h e l = ap (λ (i : ℕ). get_or marks i 0) e ∙ m at l
-
 pub invariant_of-result : goal.invariant_of-result
 invariant_of-result g c =
-    let m = c.first_marks-marks.ensures in
-    let long = c.place_homes.auto.pool in
-    let marks = c.first_marks-marks.result in
+    let pool = c.args.pool.now in
+    let n = c.nodes-nodes.result in
+    let nodes = c.nodes-nodes.ensures in
+    let homes = c.place_homes.new.homes in
+    let first : length homes ≡ n = c.place_homes.auto.homes ∙ length-take-le n pool (omega arith) in
+    let whole : length (homes ++ drop n pool) ≡ length pool = let a = length-append homes (drop n pool) in let b = length-drop n pool in omega arith in
+    let marks : (v : ℕ) → v < 25 → get_or c.from_fn.result v 0 ≡ v = λ v h. let a = c.from_fn.ensures.items.at v 0 h in search rules in
     record {
-      few_rounds = omega arith;
+      small_radius = omega arith;
       few_records = omega arith;
       homes = omega arith;
       in_room = omega arith;
-      ascend = λ k v h l.
-          let a = marked marks m k v v h (omega arith) (omega arith) in
-          let b : get_or marks (25 * k + v + 1) 0 ≡ v + 1 = ap (λ (i : ℕ). get_or marks i 0) (let z : 25 * k + v + 1 ≡ v + 1 = omega arith in z) ∙ m (v + 1) (omega arith) in
-          omega arith;
-      inside = λ k v h l. let a = marked marks m k v v h (omega arith) (omega arith) in omega arith;
+      ascend = λ k v h l. let z : k ≡ 0 = omega arith in rw z (let a = marks v (omega arith) in let b = marks (suc v) (omega arith) in omega arith);
+      inside = λ k v h l. let z : k ≡ 0 = omega arith in rw z (let a = marks v (omega arith) in omega arith);
     }
 
 pub returns : goal.returns
 returns g c =
-    let m = c.first_marks-marks.ensures in
-    let long = c.place_homes.auto.pool in
+    let pool = c.args.pool.now in
+    let n = c.nodes-nodes.result in
     let nodes = c.nodes-nodes.ensures in
-    let homes = subst (λ (n : ℕ). found g.L.Label.stands n c.place_homes.new.pool ≡ map (home_entry g.L.Label.group) (range_with_len 0 n)) nodes c.place_homes.ensures in (
+    let homes = c.place_homes.new.homes in
+    let taken = length-take-le n pool (omega arith) in
+    let first : length homes ≡ n = c.place_homes.auto.homes ∙ taken in
+    let whole : length (homes ++ drop n pool) ≡ length pool = let a = length-append homes (drop n pool) in let b = length-drop n pool in omega arith in
+    let marks : (v : ℕ) → v < 25 → get_or c.from_fn.result v 0 ≡ v = λ v h. let a = c.from_fn.ensures.items.at v 0 h in search rules in (
       ((λ n. n (omega arith)), ((λ s. elim s [ inl h ↦ (let z : ⊥ = omega arith in z) | inr h ↦ (let z : ⊥ = omega arith in z) ]), tt)),
-      seal_done g.L.Label.group g.L.Label.order g.L.Label.stands c.args.draft c.args.list.now c.args.pool.now c.place_homes.new.pool _ (omega arith) long refl refl nodes long
-          (λ v h. marked c.first_marks-marks.result m 0 v v (omega arith) (omega arith) (omega arith)) homes,
+      seal_done g.L.Label.group g.L.Label.order g.L.Label.stands c.args.draft c.args.list.now pool (homes ++ drop n pool) _ (omega arith) whole refl refl nodes whole
+          (λ v h. marks v (omega arith))
+          (homes_first g.L.Label.group g.L.Label.order g.L.Label.stands c.args.draft.nodes (length (take n pool)) homes (drop n pool) c.place_homes.auto.homes (taken ∙ nodes) c.place_homes.ensures),
     )
