@@ -19,7 +19,7 @@ pub(crate) fn all_once(images: &[u8]) -> bool
     (0..8).all(|k| stands_once(images, k))
 }
 
-// The eight base-8 digits, the lowest first.
+// The eight base-8 digits, the lowest first. Images are an array of eight bytes throughout: nothing here allocates.
 pub(crate) fn unpack(n: u32) -> [u8; 8]
     ensures { result ≡ digits n }
 {

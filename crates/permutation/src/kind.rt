@@ -18,7 +18,7 @@ fn image_in(number: i32) -> Option<u8>
     u8::try_from(number).ok().filter(|image| *image < 8)
 }
 
-// The numbers as images; none unless there are eight, each 0 to 7.
+// The numbers as images, in an array, since nothing here allocates; none unless there are eight, each 0 to 7.
 // By an index, for after an adapter of `iter_mut` a proof knows nothing of the elements.
 fn images_in(numbers: &[i32]) -> Option<[u8; 8]>
     ensures { MatchOption result (fit image_slots numbers.now ≡ false) (λ xs. (numbers.now ≡ map pos xs) × (points xs ≡ true)) }

@@ -33,8 +33,8 @@ module _ {L M : Type 0} (G : Group M) (F : Form M) (stands : L → M) (kind : �
       (((sheet_said name (length bytes) ++ next_line (nodes_said d.nodes)) ++ lines_said shown 0 (take d.lines list)) ++ nodes_ports (λ u. length (ports G (net_of stands d list) u)) d.nodes)
       ++ next_line (again_said (length bytes) true)
 
-  -- what is said of the bytes, where reading them changes the list so: the net that was read, or the fault; nothing where memory ran out
+  -- what is said of the bytes, where reading them changes the list so: the net that was read, or the fault; where memory ran out, a net was read and nothing is said of it
   abbrev pub Says : List ℕ → List (Line L) → Result (String Global) NotShown → List (Line L) → Type 0
   Says bytes list (Ok s) list' = (d : Draft) × WasRead G F stands kind bytes list d list' × (string_bytes s ≡ net_said bytes d list')
   Says bytes list (Err (Refused f)) list' = WasRefused G F stands kind bytes list f list'
-  Says bytes list (Err (OutOfMemory e)) list' = Unit {0}
+  Says bytes list (Err (OutOfMemory e)) list' = (d : Draft) × WasRead G F stands kind bytes list d list'

@@ -80,7 +80,7 @@ pub enum SheetFault {
 }
 
 impl SheetFault {
-    // The number that the fault has in the kit's table: outside the kit faults are kept and told by number.
+    // The number that the fault has in the kit's table: outside the kit faults are kept and told by number. The layer that refuses is asked.
     pub fn number(self) -> u8
         ensures { result ≡ fault_number self }
     {
