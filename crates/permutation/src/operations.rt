@@ -37,6 +37,10 @@ impl PackedPermutation {
     pub fn image(self, point: usize) -> Option<u8>
         ensures { result ≡ slice_get (perm self).0 point }
     {
+        // asked first, so that the images are unpacked only for a point
+        if point >= 8 {
+            return None;
+        }
         self.images().get(point).copied()
     }
 

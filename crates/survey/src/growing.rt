@@ -21,7 +21,7 @@ impl Survey {
         ensures begins { result.start ≡ mark_of self.now.marks k v }
         ensures ends { result.end ≡ mark_of self.now.marks k (suc v) }
     {
-        let marks = self.marks[k as usize];
+        let marks = &self.marks[k as usize];
         let v = v as usize;
         marks[v] as usize..marks[v + 1] as usize
     }

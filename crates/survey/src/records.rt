@@ -10,11 +10,12 @@ pub struct Junction<L> {
 
 // A record of a pool: one junction as it was found about the home of its centre, and its distance from there.
 // `below` and `above` are the records at which a search goes on to a lesser and to a greater junction.
+// The junction comes first: fields lie in the order of the source, and after one number of 32 bits a label of 64 would leave a gap.
 // no heap: a link is a place in the pool. It is a plain number and no Option: a lent record may hold anything, so a link is judged by its place, and 0 is never later than its record.
 #[derive(Clone, Copy)]
 pub struct Record<L> {
-    pub centre: u32,
     pub junction: Junction<L>,
+    pub centre: u32,
     pub distance: u32,
     pub below: u32,
     pub above: u32,

@@ -50,6 +50,6 @@ returns-in-Err g c =
     let room : s.used ≤ length pool = omega arith in
     let told = ask_front g.L.Label.order g.L.Label.stands s.used pool x room c.args.v (let h = s.homes in omega arith) (Err c.in-Err.field-0) c.in-Err.ensures in
     let lent = c.in_ok-check_lent.ensures in (
-      (lent_known s _ _ lent, ((λ k. elim k [ inl h ↦ (let z : ⊥ = omega arith in z) | inr h ↦ (let z : ⊥ = omega arith in z) ]), tt)),
+      (lent_known s _ _ lent, ((λ k. elim k [ inl h ↦ (let z : ⊥ = omega arith in z) | inr h ↦ (let z : ⊥ = omega (arith, c.in_ok-check_node-2.ensures) in z) ]), tt)),
       reach_missing g.L.Label.group g.L.Label.order g.L.Label.stands s c.args.list.now pool c.args.v c.args.to is_node room c.in-Err.field-0 told,
     )
