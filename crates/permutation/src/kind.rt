@@ -12,7 +12,7 @@ use std::cmp::Ordering;
 use std::fmt;
 
 // The number as an image; none unless it is 0 to 7.
-// A range and no `u8::try_from(..).ok().filter(..)`: that took three times as long, and kept a sheet's reader from being compiled into one loop.
+// A range and no `u8::try_from(..).ok().filter(..)`: that took three times as long, and with it a sheet's reader cleared its array of numbers for each label.
 fn image_in(number: i32) -> Option<u8>
     ensures { MatchOption result (inside image_slot number ≡ false) (λ x. (number ≡ pos x) × (x < 8)) }
 {
